@@ -1,0 +1,3 @@
+pub mod Chunks
+pub mod Fnv
+pub mod Keypresses

@@ -1,0 +1,5 @@
+pub mod Laws
+pub mod Hashes
+pub mod Presses
+pub mod Codes
+pub mod Routes

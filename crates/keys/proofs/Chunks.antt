@@ -98,6 +98,7 @@ module _ (h g : ℕ) where
   beyond from l = record { inside = omega arith; onward = inr refl; together = λ i k m. absurd (omega arith); apart = inr refl }
 
   pub parting-parts : (from : ℕ) → Parts h g from (partingAt h g from)
+  unfolding partingAt
   parting-parts from =
       ⊎-elim (λ (l : from < 7). let e : min from 7 ≡ from = omega arith in rw e (first-parts (7 - from) from (omega arith)))
       (λ (l : 7 ≤ from).
@@ -116,12 +117,15 @@ module _ (h g : ℕ) where
 
   module _ (from index : ℕ) (so : firstApart h g (7 - index) (min index 7) ≡ partingAt h g from) where
     pub parting-here : index < 7 → (chunkAt h index ≡ chunkAt g index → ⊥) → index ≡ partingAt h g from
+    unfolding partingAt
     parting-here l n = sym (step index l ∙ cond-false _ _ _ (ne-eqb (chunkAt h index) (chunkAt g index) n)) ∙ so
 
     pub parting-on : index < 7 → chunkAt h index ≡ chunkAt g index → firstApart h g (7 - (index + 1)) (min (index + 1) 7) ≡ partingAt h g from
+    unfolding partingAt
     parting-on l e = sym (step index l ∙ cond-true _ _ _ (eq-eqb (chunkAt h index) (chunkAt g index) e)) ∙ so
 
     pub parting-end : 7 ≤ index → 7 ≡ partingAt h g from
+    unfolding partingAt
     parting-end l =
         let e : 7 - index ≡ 0 = omega arith in
         let f : min index 7 ≡ 7 = omega arith in

@@ -19,7 +19,7 @@ firstApart h g zero index = index
 firstApart h g (suc more) index = cond (eqb (chunkAt h index) (chunkAt g index)) (firstApart h g more (index + 1)) index
 
 -- The first index from this one on, at most 6, at which two hashes part; 7 where there is none.
-abbrev pub partingAt : ℕ → ℕ → ℕ → ℕ
+unfoldable pub partingAt : ℕ → ℕ → ℕ → ℕ
 partingAt h g from = firstApart h g (7 - from) (min from 7)
 
 -- Two hashes have the same chunk at each index from one up to another.

@@ -1,7 +1,11 @@
-use mathlib.Core.Path.{_≡_, sym, _∙_}
-use Rattle.keys.specs.Routes.{chunkAt, partingAt}
+use mathlib.Core.Path.{refl, sym, _∙_}
+use Rattle.keys.specs.Routes.{partingAt}
 use Rattle.keys.proofs.Chunks.{parting-is, parting-here, parting-on, parting-end}
 use Rattle.keys.proofs.routes.parting.Needs as need
+
+pub loop-index-holds : need.loop-index-holds
+unfolding partingAt
+loop-index-holds c = refl
 
 pub returns-then-chunk : need.returns-then-chunk
 returns-then-chunk c =

@@ -1,0 +1,4 @@
+pub mod Demand
+pub mod Law
+pub mod Depths
+pub mod Lines

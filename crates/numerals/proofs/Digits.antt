@@ -31,10 +31,10 @@ module _ (text : List ℕ) where
   unplain n fits e (inr (inl plus)) = omega (arith, first-digit n fits, ap (λ (t : List ℕ). getD t 0 0) e)
   unplain n fits e (inr (inr (zero, more))) =
       elim (cases-lt 0 n) [
-        inl some ↦ omega (arith, first-decimal n some fits, zero, ap (λ (t : List ℕ). getD t 0 0) e)
-      | inr none ↦
-          let z : n ≡ 0 = omega arith in
-          omega (arith, more, ap length e, ap (λ (m : ℕ). length (decimal m)) z, ap length (decimal-digit 0 (omega arith)))
+        | inl some ↦ omega (arith, first-decimal n some fits, zero, ap (λ (t : List ℕ). getD t 0 0) e)
+        | inr none ↦
+            let z : n ≡ 0 = omega arith in
+            omega (arith, more, ap length e, ap (λ (m : ℕ). length (decimal m)) z, ap length (decimal-digit 0 (omega arith)))
       ]
 
   module _ {E : Type 0} (r : Result ℕ E) (reads : ReadsUnsigned 64 10 text r) (plain : getD text 0 0 ≡ 43 → ⊥) where

@@ -34,9 +34,10 @@ once-map f one (x ∷ xs) o =
 
 once-append : {A : Type 0} (xs ys : List A) → Once xs → Once ys → ((x : A) → List·Memᴰ x xs → List·Memᴰ x ys → ⊥) → Once (xs ++ ys)
 once-append [] ys o p apart = p
-once-append (x ∷ xs) ys o p apart =
-    ((λ m. ⊎-elim (λ (i : List·Memᴰ x xs). o .0 i) (λ (i : List·Memᴰ x ys). apart x (List·Memᴰ·head refl) i) (List·Memᴰ·append-cases xs m)),
-    once-append xs ys (o .1) p (λ y i j. apart y (List·Memᴰ·tail i) j))
+once-append (x ∷ xs) ys o p apart = (
+  (λ m. ⊎-elim (λ (i : List·Memᴰ x xs). o .0 i) (λ (i : List·Memᴰ x ys). apart x (List·Memᴰ·head refl) i) (List·Memᴰ·append-cases xs m)),
+  once-append xs ys (o .1) p (λ y i j. apart y (List·Memᴰ·tail i) j),
+)
 
 module _ (hashes : List ℕ) where
   -- The shared prefixes of the indices 1 to n, each with its index.
@@ -59,10 +60,10 @@ module _ (hashes : List ℕ) where
   below-in (suc n) index prefix m =
       ⊎-elim (λ (i : List·Memᴰ (index, prefix) (belowTo n)). let h = below-in n index prefix i in (h .0, omega (arith, h .1), h .2))
       (λ (i : List·Memᴰ (index, prefix) (map (λ p. (suc n, p)) (sharedPrefixes hashes (suc n)))).
-        let found = map-in (λ p. (suc n, p)) (index, prefix) (sharedPrefixes hashes (suc n)) i in
-        let at : suc n ≡ index = ap (λ q. q .0) (found .2) in
-        let is : found .0 ≡ prefix = ap (λ q. q .1) (found .2) in
-        (omega arith, omega arith, subst (λ j. List·Memᴰ prefix (sharedPrefixes hashes j)) at (subst (λ p. List·Memᴰ p (sharedPrefixes hashes (suc n))) is (found .1))))
+      let found = map-in (λ p. (suc n, p)) (index, prefix) (sharedPrefixes hashes (suc n)) i in
+      let at : suc n ≡ index = ap (λ q. q .0) (found .2) in
+      let is : found .0 ≡ prefix = ap (λ q. q .1) (found .2) in
+      (omega arith, omega arith, subst (λ j. List·Memᴰ prefix (sharedPrefixes hashes j)) at (subst (λ p. List·Memᴰ p (sharedPrefixes hashes (suc n))) is (found .1))))
       (List·Memᴰ·append-cases (belowTo n) m)
 
   in-below : (n index prefix : ℕ) → 1 ≤ index → index ≤ n → List·Memᴰ prefix (sharedPrefixes hashes index) → List·Memᴰ (index, prefix) (belowTo n)
@@ -70,9 +71,9 @@ module _ (hashes : List ℕ) where
   in-below (suc n) index prefix low high m =
       ⊎-elim
       (λ (e : index ≡ suc n).
-        Memᴰ·append-right (belowTo n)
-        (subst (λ j. List·Memᴰ {A = ℕ × ℕ} (j, prefix) (map (λ p. (suc n, p)) (sharedPrefixes hashes (suc n)))) (sym e)
-        (in-map (λ p. (suc n, p)) prefix (sharedPrefixes hashes (suc n)) (subst (λ j. List·Memᴰ prefix (sharedPrefixes hashes j)) e m))))
+      Memᴰ·append-right (belowTo n)
+      (subst (λ j. List·Memᴰ {A = ℕ × ℕ} (j, prefix) (map (λ p. (suc n, p)) (sharedPrefixes hashes (suc n)))) (sym e)
+      (in-map (λ p. (suc n, p)) prefix (sharedPrefixes hashes (suc n)) (subst (λ j. List·Memᴰ prefix (sharedPrefixes hashes j)) e m))))
       (λ (d : index ≡ suc n → ⊥). Memᴰ·append-left _ (in-below n index prefix low (omega arith) m))
       (cases-eq index (suc n))
 
@@ -82,10 +83,10 @@ module _ (hashes : List ℕ) where
       once-append (belowTo n) _ (once-to n)
       (once-map (λ p. (suc n, p)) (λ x y e. ap (λ q. q .1) e) (sharedPrefixes hashes (suc n)) (once-repeats (map (λ h. prefixAt h (suc n)) hashes)))
       (λ x i j.
-        let found = map-in (λ p. (suc n, p)) x (sharedPrefixes hashes (suc n)) j in
-        let at : suc n ≡ x .0 = ap (λ q. q .0) (found .2) in
-        let h = below-in n (x .0) (x .1) i in
-        omega (arith, h .1))
+      let found = map-in (λ p. (suc n, p)) x (sharedPrefixes hashes (suc n)) j in
+      let at : suc n ≡ x .0 = ap (λ q. q .0) (found .2) in
+      let h = below-in n (x .0) (x .1) i in
+      omega (arith, h .1))
 
 module _ {K : Type 0} (same : K → K → Bool) (hash : K → ℕ) (index prefix : ℕ) where
   -- How many keys of a list have the prefix.
@@ -142,7 +143,8 @@ module _ {K : Type 0} (same : K → K → Bool) (hash : K → ℕ) (index prefix
             other-in = from (found .0) (List·Memᴰ·tail (found .1));
             unequal = apart .0 (found .0) (found .1);
             one-has = e;
-            other-has = found .2 }
+            other-has = found .2;
+          }
       by (inr d) later =
           let f = ne-eqb (prefixAt (hash k) index) prefix d in
           let g : 2 ≤ 0 + having chosen = rw f at l in
@@ -155,7 +157,7 @@ module _ {K : Type 0} (same : K → K → Bool) (hash : K → ℕ) (laws : KeyLa
       let b = so .each (s .other) (s .other-in) in
       having-two same hash index prefix chosen (a .0) (b .0) (a .1) (b .1)
       (λ e. both-ways (same (s .one) (s .other)) (s .unequal)
-        (laws .transitive (s .one) (a .0) (s .other) (laws .symmetric (a .0) (s .one) (a .2)) (subst (λ k. same k (s .other) ≡ true) (sym e) (b .2))))
+      (laws .transitive (s .one) (a .0) (s .other) (laws .symmetric (a .0) (s .one) (a .2)) (subst (λ k. same k (s .other) ≡ true) (sym e) (b .2))))
       (ap (λ h. prefixAt h index) (laws .hashed (a .0) (s .one) (a .2)) ∙ s .one-has)
       (ap (λ h. prefixAt h index) (laws .hashed (b .0) (s .other) (b .2)) ∙ s .other-has)
 
@@ -165,13 +167,14 @@ module _ {K : Type 0} (same : K → K → Bool) (hash : K → ℕ) (laws : KeyLa
       record {
         once = once-to (map hash chosen) 7;
         shared =
-          λ index prefix m.
-          let h = below-in (map hash chosen) 7 index prefix m in
-          (h .0, h .1, two-having same hash index prefix ks chosen (so .from) (so .apart) (repeated-twice prefix (map (λ h. prefixAt h index) (map hash chosen)) (h .2)));
+            λ index prefix m.
+            let h = below-in (map hash chosen) 7 index prefix m in
+            (h .0, h .1, two-having same hash index prefix ks chosen (so .from) (so .apart) (repeated-twice prefix (map (λ h. prefixAt h index) (map hash chosen)) (h .2)));
         all =
-          λ index prefix low high s.
-          in-below (map hash chosen) 7 index prefix low high
-          (twice-repeated prefix (map (λ h. prefixAt h index) (map hash chosen)) (shared-two index prefix s)) }
+            λ index prefix low high s.
+            in-below (map hash chosen) 7 index prefix low high
+            (twice-repeated prefix (map (λ h. prefixAt h index) (map hash chosen)) (shared-two index prefix s));
+      }
 
 summed-le : (f : ℕ → ℕ) (most n : ℕ) → ((index : ℕ) → f index ≤ most) → summed f n ≤ n * most
 summed-le f most zero small = omega arith
@@ -182,13 +185,13 @@ pub cells-few : (hashes : List ℕ) → ((h : ℕ) → List·Memᴰ h hashes →
 unfolding cellsFor
 cells-few hashes small =
     let each : (index : ℕ) → length (sharedPrefixes hashes index) ≤ 2 ^ 32 =
-      λ index.
-      once-below (2 ^ 32) (sharedPrefixes hashes index) (once-repeats (map (λ h. prefixAt h index) hashes))
-      (λ prefix m.
-        let found = map-in (λ h. prefixAt h index) prefix hashes (repeated-in prefix (map (λ h. prefixAt h index) hashes) m) in
-        let l = small (found .0) (found .1) in
-        let k = mod-le (found .0) (2 ^ (5 * index)) in
-        let e = found .2 in
-        omega arith) in
+    λ index.
+    once-below (2 ^ 32) (sharedPrefixes hashes index) (once-repeats (map (λ h. prefixAt h index) hashes))
+    (λ prefix m.
+    let found = map-in (λ h. prefixAt h index) prefix hashes (repeated-in prefix (map (λ h. prefixAt h index) hashes) m) in
+    let l = small (found .0) (found .1) in
+    let k = mod-le (found .0) (2 ^ (5 * index)) in
+    let e = found .2 in
+    omega arith) in
     let all = summed-le (λ index. length (sharedPrefixes hashes index)) (2 ^ 32) 7 each in
     omega arith

@@ -22,12 +22,13 @@ module _ {K : Type 0} (same : K → K → Bool) (hash : K → ℕ) (laws : KeyLa
   apart-push : (ks : List K) (key : K) → holds same ks key ≡ false → Apart same ks → Apart same (ks ++ (key ∷ []))
   apart-push [] key h a = ((λ other m. elim m [ ]), tt)
   apart-push (k ∷ ks) key h a =
-      let parts = or-parts (same k key) (holds same ks key) h in
-      ((λ other m.
-        ⊎-elim (λ (i : List·Memᴰ other ks). a .0 other i)
-        (λ (i : List·Memᴰ other (key ∷ [])). rw (List·Memᴰ·eq-of-singleton i) (parts .0))
-        (List·Memᴰ·append-cases ks m)),
-      apart-push ks key (parts .1) (a .1))
+      let parts = or-parts (same k key) (holds same ks key) h in (
+        (λ other m.
+            ⊎-elim (λ (i : List·Memᴰ other ks). a .0 other i)
+            (λ (i : List·Memᴰ other (key ∷ [])). rw (List·Memᴰ·eq-of-singleton i) (parts .0))
+            (List·Memᴰ·append-cases ks m)),
+        apart-push ks key (parts .1) (a .1),
+      )
 
   -- One key more.
   chosen-push : (ks chosen : List K) (key : K) → Chosen same ks chosen → Chosen same (ks ++ (key ∷ [])) (withKey same chosen key)
@@ -38,24 +39,26 @@ module _ {K : Type 0} (same : K → K → Bool) (hash : K → ℕ) (laws : KeyLa
           record {
             from = λ k m. Memᴰ·append-left (key ∷ []) (so .from k m);
             each =
-              λ k m.
-              ⊎-elim (λ (i : List·Memᴰ k ks). so .each k i)
-              (λ (i : List·Memᴰ k (key ∷ [])). rw (List·Memᴰ·eq-of-singleton i) (holds-one chosen key h))
-              (List·Memᴰ·append-cases ks m);
-            apart = so .apart }
+                λ k m.
+                ⊎-elim (λ (i : List·Memᴰ k ks). so .each k i)
+                (λ (i : List·Memᴰ k (key ∷ [])). rw (List·Memᴰ·eq-of-singleton i) (holds-one chosen key h))
+                (List·Memᴰ·append-cases ks m);
+            apart = so .apart;
+          }
       by false h =
           record {
             from =
-              λ k m.
-              ⊎-elim (λ (i : List·Memᴰ k chosen). Memᴰ·append-left (key ∷ []) (so .from k i))
-              (λ (i : List·Memᴰ k (key ∷ [])). Memᴰ·append-right ks i)
-              (List·Memᴰ·append-cases chosen m);
+                λ k m.
+                ⊎-elim (λ (i : List·Memᴰ k chosen). Memᴰ·append-left (key ∷ []) (so .from k i))
+                (λ (i : List·Memᴰ k (key ∷ [])). Memᴰ·append-right ks i)
+                (List·Memᴰ·append-cases chosen m);
             each =
-              λ k m.
-              ⊎-elim (λ (i : List·Memᴰ k ks). let found = so .each k i in (found .0, Memᴰ·append-left (key ∷ []) (found .1), found .2))
-              (λ (i : List·Memᴰ k (key ∷ [])). (k, Memᴰ·append-right chosen i, laws .reflexive k))
-              (List·Memᴰ·append-cases ks m);
-            apart = apart-push chosen key h (so .apart) }
+                λ k m.
+                ⊎-elim (λ (i : List·Memᴰ k ks). let found = so .each k i in (found .0, Memᴰ·append-left (key ∷ []) (found .1), found .2))
+                (λ (i : List·Memᴰ k (key ∷ [])). (k, Memᴰ·append-right chosen i, laws .reflexive k))
+                (List·Memᴰ·append-cases ks m);
+            apart = apart-push chosen key h (so .apart);
+          }
 
   chosen-fold : (ks seen chosen : List K) → Chosen same seen chosen → Chosen same (seen ++ ks) (folded (withKey same) chosen ks)
   chosen-fold [] seen chosen so = subst (λ s. Chosen same s chosen) (sym (append-nil seen)) so

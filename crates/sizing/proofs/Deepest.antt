@@ -56,9 +56,9 @@ module _ (h : ℕ) where
       by (inl k) =
           ne-eqb _ _
           (λ e.
-            ⊎-elim (λ apart. apart (prefix-by-chunks h g index .chunks (sym e) (partingAt h g 0) (omega arith) k))
-            (λ (s : partingAt h g 0 ≡ 7). omega arith)
-            (at .apart))
+          ⊎-elim (λ apart. apart (prefix-by-chunks h g index .chunks (sym e) (partingAt h g 0) (omega arith) k))
+          (λ (s : partingAt h g 0 ≡ 7). omega arith)
+          (at .apart))
           ∙ sym (lt-leb index (partingAt h g 0) k)
       by (inr k) =
           eq-eqb _ _ (sym (prefix-by-chunks h g index .shared (λ i low high. at .together i low (omega arith))))
@@ -76,7 +76,7 @@ module _ (h : ℕ) where
   told-fold index l (g ∷ others) two n o t =
       let rest = occurrences (prefixAt h index) (map (λ g. prefixAt g index) others) in
       let e : n + (one-if (eqb (prefixAt g index) (prefixAt h index)) + rest) ≡ n + one-if (leb index (partingAt h g 0)) + rest =
-        ap (λ b. n + (one-if b + rest)) (along g index l) ∙ sym (add-assoc n (one-if (leb index (partingAt h g 0))) rest) in
+      ap (λ b. n + (one-if b + rest)) (along g index l) ∙ sym (add-assoc n (one-if (leb index (partingAt h g 0))) rest) in
       subst (λ m. Told (folded deeper (deeper two g) others) index m) (sym e)
       (told-fold index l others (deeper two g) (n + one-if (leb index (partingAt h g 0))) (ordered-more two (partingAt h g 0) (parting-parts h g 0 .inside) o)
       (told-more two (partingAt h g 0) index n o t))
@@ -135,10 +135,10 @@ cells-more hashes h =
     let b = deepestTwo h hashes .1 in
     let o = deepest-ordered h hashes in
     let sum =
-      summed-add (λ index. length (sharedPrefixes (hashes ++ (h ∷ [])) index)) (λ index. length (sharedPrefixes hashes index)) (λ index. one-if (leb index a) - one-if (leb index b)) 7
-      (λ index low high.
-        ap (λ xs. length (repeats xs)) (map-push (λ g. prefixAt g index) hashes h)
-        ∙ (repeats-push (map (λ g. prefixAt g index) hashes) (prefixAt h index) ∙ ap (λ n. length (sharedPrefixes hashes index) + n) (alone h hashes index low high))) in
+    summed-add (λ index. length (sharedPrefixes (hashes ++ (h ∷ [])) index)) (λ index. length (sharedPrefixes hashes index)) (λ index. one-if (leb index a) - one-if (leb index b)) 7
+    (λ index low high.
+    ap (λ xs. length (repeats xs)) (map-push (λ g. prefixAt g index) hashes h)
+    ∙ (repeats-push (map (λ g. prefixAt g index) hashes) (prefixAt h index) ∙ ap (λ n. length (sharedPrefixes hashes index) + n) (alone h hashes index low high))) in
     let steps = summed-steps a b 7 (o .0) in
     let l = o .1 in
     let k = o .0 in

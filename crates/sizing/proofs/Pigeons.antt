@@ -60,11 +60,11 @@ once-below zero [] o small = omega arith
 once-below zero (x ∷ xs) o small = absurd (let h = small x (List·Memᴰ·head refl) in omega arith)
 once-below (suc n) xs o small =
     let shorter =
-      once-below n (without n xs) (once-without n xs o)
-      (λ x m.
-        let k = without-in n x xs m in
-        let l = small x (k .0) in
-        let d = k .1 in
-        omega arith) in
+    once-below n (without n xs) (once-without n xs o)
+    (λ x m.
+    let k = without-in n x xs m in
+    let l = small x (k .0) in
+    let d = k .1 in
+    omega arith) in
     let one = without-one n xs o in
     omega arith

@@ -42,7 +42,8 @@ module _ {K : Type 0} (same : K → K → Bool) (hash : K → ℕ) where
         record {
           keys = sym (different-more ∙ cond-true _ _ _ (sym h));
           hashed = so .hashed;
-          needs = so .needs }
+          needs = so .needs;
+        }
 
     module _ (h : ℕ) (of : h ≡ hash key) where
       -- The key is new.
@@ -51,24 +52,25 @@ module _ {K : Type 0} (same : K → K → Bool) (hash : K → ℕ) where
           record {
             keys = m ∙ sym (different-more ∙ cond-false _ _ _ (sym new));
             hashed =
-              w
-              ∙ (ap (λ hs. hs ++ (h ∷ [])) (so .hashed)
-              ∙ (ap (λ x. map hash chosen ++ (x ∷ [])) of ∙ (sym (map-push hash chosen key) ∙ ap (map hash) (sym m))));
+                w
+                ∙ (ap (λ hs. hs ++ (h ∷ [])) (so .hashed)
+                ∙ (ap (λ x. map hash chosen ++ (x ∷ [])) of ∙ (sym (map-push hash chosen key) ∙ ap (map hash) (sym m))));
             needs =
-              ap (λ d. cells + (d .0 - d .1)) t
-              ∙ (ap (λ n. n + (deepestTwo h hashes .0 - deepestTwo h hashes .1)) (so .needs) ∙ (sym (cells-more hashes h) ∙ ap cellsFor (sym w))) }
+                ap (λ d. cells + (d .0 - d .1)) t
+                ∙ (ap (λ n. n + (deepestTwo h hashes .0 - deepestTwo h hashes .1)) (so .needs) ∙ (sym (cells-more hashes h) ∙ ap cellsFor (sym w)));
+          }
 
 module _ {K : Type 0} (same : K → K → Bool) (hash : K → ℕ) (laws : KeyLaws same hash) where
   -- So few cells that their number fits.
   pub progress-fits : (seen chosen : List K) (hashes : List ℕ) (cells : ℕ) → Progress same hash seen chosen hashes cells → cells < 2 ^ 64
   progress-fits seen chosen hashes cells so =
       let few =
-        cells-few hashes
-        (λ h m.
-          let found = map-in hash h chosen (subst (λ hs. List·Memᴰ h hs) (so .hashed) m) in
-          let s = laws .short (found .0) in
-          let e = found .2 in
-          omega arith) in
+      cells-few hashes
+      (λ h m.
+      let found = map-in hash h chosen (subst (λ hs. List·Memᴰ h hs) (so .hashed) m) in
+      let s = laws .short (found .0) in
+      let e = found .2 in
+      omega arith) in
       let n = so .needs in
       omega arith
 
@@ -93,4 +95,5 @@ module _ {K : Type 0} (same : K → K → Bool) (hash : K → ℕ) (laws : KeyLa
           pairs = many ∙ ap length all-keys;
           below = belowTo (map hash (different same ks)) 7;
           are = cells-are same hash laws ks (different same ks) (chosen-different same hash laws ks);
-          cells = all-cells ∙ cells-below (map hash (different same ks)) }
+          cells = all-cells ∙ cells-below (map hash (different same ks));
+        }

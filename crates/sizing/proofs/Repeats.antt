@@ -31,14 +31,14 @@ exchanged : (x y m n : ℕ) → (x ≡ y → m ≡ n) → one-if (eqb (m + one-i
 exchanged x y m n same =
     ⊎-elim
     (λ (e : x ≡ y).
-      let f = eq-eqb x y e in
-      let b = eq-eqb y x (sym e) in
-      let k = same e in
-      rw (f, b, k) (omega (arith, ap (λ z. one-if (eqb z 1)) (one n))))
+    let f = eq-eqb x y e in
+    let b = eq-eqb y x (sym e) in
+    let k = same e in
+    rw (f, b, k) (omega (arith, ap (λ z. one-if (eqb z 1)) (one n))))
     (λ (ne : x ≡ y → ⊥).
-      let f = ne-eqb x y ne in
-      let b = ne-eqb y x (λ e. ne (sym e)) in
-      rw (f, b) (omega (arith, ap (λ z. one-if (eqb z 1)) (none m), ap (λ z. one-if (eqb z 1)) (nothing n))))
+    let f = ne-eqb x y ne in
+    let b = ne-eqb y x (λ e. ne (sym e)) in
+    rw (f, b) (omega (arith, ap (λ z. one-if (eqb z 1)) (none m), ap (λ z. one-if (eqb z 1)) (nothing n))))
     (cases-eq x y)
   where
     one : (n : ℕ) → n + 1 ≡ 1 + n

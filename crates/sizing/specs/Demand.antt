@@ -1,11 +1,15 @@
 -- How many pairs and cells a table at rest with given keys needs.
 use mathlib.Core.List.{List, [], _∷_, _++_, map}
-use mathlib.Core.Bool.{Bool, true, false, cond, _||_}
+use mathlib.Core.Bool.{Bool, true, false, cond, _&&_, _||_}
 use Prim.Native.Nat.{ℕ, zero, suc, _+_}
-use lib.Dec.{eqb}
+use lib.Dec.{eqb, leb}
 use lib.ListN.{length}
 use Rattle.std.specs.Iters.{folded}
 use Rattle.keys.specs.Routes.{prefixAt}
+use Rattle.std.specs.declared.result.Result.{Result}
+use Rattle.std.specs.declared.result.Result.the-variants.{Ok, Err}
+use Rattle.panel.specs.declared.Refusal.{Refusal}
+use Rattle.panel.specs.declared.Refusal.the-variants.{FigureOutOfLimits}
 use Rattle.sizing.specs.declared.Capacity.{Capacity}
 
 -- Whether a list holds a key equal to this one.
@@ -47,3 +51,7 @@ cellsFor hashes = 1 + summed (λ index. length (sharedPrefixes hashes index)) 7
 -- The figures for a list of keys.
 abbrev pub capacityOf : {K : Type 0} → (K → K → Bool) → (K → ℕ) → List K → Capacity
 capacityOf same hash ks = record { pairs = length (different same ks); cells = cellsFor (map hash (different same ks)) }
+
+-- The figures, if a table may be so large: at most 16,384 pairs and 4,096 cells.
+abbrev pub withinLimits : Capacity → Result Capacity Refusal
+withinLimits c = cond (leb (c .pairs) 16384 && leb (c .cells) 4096) (Ok c) (Err FigureOutOfLimits)

@@ -4,7 +4,7 @@ ghost use mathlib.Core.List.{map};
 ghost use Prim.Native.Nat.{ℕ};
 ghost use Rattle.std.specs.Of.Vec.{vec-items};
 ghost use Rattle.std.specs.Vec.{made};
-ghost use Rattle.sizing.specs.Demand.{holds, capacityOf};
+ghost use Rattle.sizing.specs.Demand.{holds, capacityOf, withinLimits};
 ghost use Rattle.sizing.specs.Depths.{deepestTwo};
 ghost use Rattle.sizing.specs.Law.{Counts};
 
@@ -12,6 +12,7 @@ pub mod lines;
 
 use keys::Key;
 use keys::routes::parting;
+use panel::Refusal;
 use std::alloc::AllocError;
 use std::alloc::Global;
 
@@ -20,6 +21,24 @@ use std::alloc::Global;
 pub struct Capacity {
     pub pairs: usize,
     pub cells: usize,
+}
+
+impl Capacity {
+    // The largest table.
+    pub const MOST_PAIRS: usize = 16_384;
+
+    pub const MOST_CELLS: usize = 4_096;
+
+    // The figures again, if a table may be so large.
+    pub fn within_limits(self) -> Result<Capacity, Refusal>
+        ensures { λ r. ⌜ r ≡ withinLimits self ⌝ }
+    {
+        if self.pairs <= Capacity::MOST_PAIRS && self.cells <= Capacity::MOST_CELLS {
+            Ok(self)
+        } else {
+            Err(Refusal::FigureOutOfLimits)
+        }
+    }
 }
 
 // The pairs and cells that a table at rest with exactly these keys needs; equal keys count once.
@@ -41,7 +60,10 @@ pub fn capacity_for<K: Key>(heap: Global, keys: &[K]) -> Result<Capacity, AllocE
         // Past `second`, up to `deepest`, the new key is the second one to share a prefix.
         cells += (deepest - second) as usize;
     }
-    Ok(Capacity { pairs: chosen.len(), cells })
+    Ok(Capacity {
+        pairs: chosen.len(),
+        cells,
+    })
 }
 
 // Whether an equal key is among them.

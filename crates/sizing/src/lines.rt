@@ -1,7 +1,6 @@
 // The lines that name keys, `card=` with a number and `code=` with presses, and routes as text.
 ghost use Rattle.std.specs.declared.option.Option.the-variants.{Some};
 ghost use Rattle.sizing.specs.Lines.{Names, routeText};
-
 use keys::Card;
 use keys::Code;
 use keys::routes::chunk;

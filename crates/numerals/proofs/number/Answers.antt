@@ -27,7 +27,7 @@ pub returns-in-Ok-parse : need.returns-in-Ok-parse
 returns-in-Ok-parse c =
     let text = c .args .text .now in
     let alone : getD text 0 0 ≡ 48 → length text ≡ 1 =
-      λ zero. elim (c .else-text-eq48 .either) [ inl p ↦ omega arith | inr p ↦ absurd (p zero) ] in
+    λ zero. elim (c .else-text-eq48 .either) [ inl p ↦ omega arith | inr p ↦ absurd (p zero) ] in
     parsed text _ (subst (λ t. ReadsUnsigned 64 10 t (c .parse .result)) (c .in-Ok .ensures tt .cases .0) (c .parse .ensures .reads .0))
     (c .if-text-eq43 .left) _ (c .in-Ok-parse .is) alone
 

@@ -51,8 +51,9 @@ returns g c =
     let pairs : c .len .result ≡ length (vec-items (c .loop-key .chosen)) = c .len .ensures ∙ c .loop-key .chosen .ok .0 in
     record {
       figures =
-        progress-figures same hash laws (c .args .keys .now) (vec-items (c .loop-key .chosen)) (vec-items (c .loop-key .hashes)) (c .loop-key .cells)
-        (c .loop-key .key-index) (c .len .result) (c .loop-key-test .left) (c .loop-key .inv) pairs;
+          progress-figures same hash laws (c .args .keys .now) (vec-items (c .loop-key .chosen)) (vec-items (c .loop-key .hashes)) (c .loop-key .cells)
+          (c .loop-key .key-index) (c .len .result) (c .loop-key-test .left) (c .loop-key .inv) pairs;
       counts =
-        progress-counts same hash laws (c .args .keys .now) (vec-items (c .loop-key .chosen)) (vec-items (c .loop-key .hashes)) (c .loop-key .cells)
-        (c .loop-key .key-index) (c .len .result) (c .loop-key-test .left) (c .loop-key .inv) pairs }
+          progress-counts same hash laws (c .args .keys .now) (vec-items (c .loop-key .chosen)) (vec-items (c .loop-key .hashes)) (c .loop-key .cells)
+          (c .loop-key .key-index) (c .len .result) (c .loop-key-test .left) (c .loop-key .inv) pairs;
+    }

@@ -26,7 +26,7 @@ pub prefix-past : (h index : ℕ) → h < 2 ^ 32 → 7 ≤ index → prefixAt h 
 prefix-past h index l k = mod-eq-of-lt (long h index l k)
 
 -- The next prefix is the chunk here above the prefix so far.
-prefix-next : (h index : ℕ) → prefixAt h (suc index) ≡ chunkAt h index * 2 ^ (5 * index) + prefixAt h index
+pub prefix-next : (h index : ℕ) → prefixAt h (suc index) ≡ chunkAt h index * 2 ^ (5 * index) + prefixAt h index
 prefix-next h index =
     let e : 5 * suc index ≡ 5 + 5 * index = omega arith in
     ap (λ n. h % 2 ^ n) e ∙ mod-pow-add h 5 (5 * index)

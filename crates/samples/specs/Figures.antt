@@ -8,6 +8,7 @@ use Rattle.keys.specs.Routes.{chunkAt}
 use Rattle.keys.specs.declared.cards.Card.{Card}
 use Rattle.sizing.specs.Demand.{capacityOf}
 
+-- A card by its number.
 abbrev pub card : ℕ → Card
 card n = record { 0 = n }
 

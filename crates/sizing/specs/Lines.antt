@@ -16,10 +16,11 @@ use Rattle.keys.specs.Routes.{chunkAt}
 use Rattle.sizing.specs.declared.lines.KeyLine.{KeyLine}
 use Rattle.sizing.specs.declared.lines.KeyLine.the-variants.{OfCard, OfCode}
 
--- The line of a card, by its number, and of a code, by its presses.
+-- The line of a card, by its number.
 abbrev pub cardLine : ℕ → List ℕ
 cardLine n = codes "card=" ++ decimal n
 
+-- The line of a code, by its presses.
 abbrev pub codeLine : List ℕ → List ℕ
 codeLine presses = codes "code=" ++ presses
 

@@ -1,0 +1,11 @@
+pub mod Bits
+pub mod Positions
+pub mod Gains
+pub mod Standing
+pub mod Shifts
+pub mod Edits
+pub mod Made
+pub mod Sizes
+pub mod Singles
+pub mod Listings
+pub mod Contracts

@@ -1,0 +1,5 @@
+pub mod Bits
+pub mod Rows
+pub mod Nodes
+pub mod Lists
+pub mod Laws

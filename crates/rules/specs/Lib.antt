@@ -1,0 +1,14 @@
+pub mod Memory
+pub mod Sound
+pub mod Reached
+pub mod Seats
+pub mod InUse
+pub mod Edits
+pub mod Turns
+pub mod Perform
+pub mod Calls
+pub mod Samples
+pub mod PlainMap
+pub mod History
+pub mod Theorem
+pub mod Sanity

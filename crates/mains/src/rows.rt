@@ -5,7 +5,7 @@ ghost use lib.ListN.{length};
 ghost use Rattle.mains.specs.Rows.{putIn, takeOut};
 
 // Puts an element in at a place; those from there on move one place up, and the last is lost.
-pub fn put_in<T: Copy>(row: &mut [T], place: usize, element: T)
+pub(crate) fn put_in<T: Copy>(row: &mut [T], place: usize, element: T)
     requires { ⌜ place < length (now row) ⌝ }
     ensures { λ _. ⌜ now (row .exit) ≡ putIn (now (row .entry)) place element ⌝ }
 {
@@ -15,7 +15,7 @@ pub fn put_in<T: Copy>(row: &mut [T], place: usize, element: T)
 }
 
 // Takes out the element at a place; those after it move one place down, and `last` comes last.
-pub fn take_out<T: Copy>(row: &mut [T], place: usize, last: T)
+pub(crate) fn take_out<T: Copy>(row: &mut [T], place: usize, last: T)
     requires { ⌜ place < length (now row) ⌝ }
     ensures { λ _. ⌜ now (row .exit) ≡ takeOut (now (row .entry)) place last ⌝ }
 {

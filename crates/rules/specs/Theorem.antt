@@ -84,6 +84,19 @@ unfoldable pub Rising : {K : Type 0} → List (StampedCall K) → Type 0
 Rising [] = Unit {0}
 Rising {K} (c ∷ cs) = ((d : StampedCall K) → List·Memᴰ d cs → d .stamp < c .stamp) × Rising cs
 
+-- Some calls are the stamped ones, all of them and each once, with rising stamps, and each stamp lies within its call.
+pub record Ordered {K : Type 0} (h : History K) (s : State K) (calls : List (StampedCall K)) : Type 0 where
+  pub all : (c : StampedCall K) → IsStamped h s c → List·Memᴰ c calls
+  pub only : (c : StampedCall K) → List·Memᴰ c calls → IsStamped h s c
+  pub once : Once (numbers calls)
+  pub rising : Rising calls
+  -- A number is given to one opening only.
+  pub opened-once : (c d : StampedCall K) (t u : ℕ) → Asked h t c → Asked h u d → c .number ≡ d .number → (t ≡ u) × (c .ask ≡ d .ask) × (c .key ≡ d .key) × (c .at ≡ d .at)
+  -- The stamp is the number of a turn of its own call, and not after its end, which tells the same result and stamp.
+  pub own : (c : StampedCall K) → List·Memᴰ c calls → OwnTurn h c
+  pub before-end : (c : StampedCall K) → List·Memᴰ c calls → (t e : ℕ) (r : Outcome) (n : ℕ) → TurnOf h t (c .number) e (Turned (Ok (Finished (record { outcome = r; stamp = n })))) ⊎ WithdrawalOf h t (c .number) e (Withdrew (Ok (Settled (record { outcome = r; stamp = n })))) → (r ≡ c .result) × (n ≡ c .stamp) × (c .stamp ≤ e)
+  pub before-now : (c : StampedCall K) → List·Memᴰ c calls → c .stamp ≤ s .table .ticks
+
 module _ {K : Type 0} (same : K → K → Bool) where
   -- The plain map fed some calls, the last of which stands first.
   unfoldable pub fed : List (StampedCall K) → List (Pair K)
@@ -95,22 +108,12 @@ module _ {K : Type 0} (same : K → K → Bool) where
   Plain [] = Unit {0}
   Plain (c ∷ cs) = (c .result ≡ mapAnswer same (c .ask) (c .key) (fed cs)) × Plain cs
 
-  -- (a) There is one arrangement of the stamped calls, all of them and each once, with rising stamps, in which a plain map
-  -- gives every result; and each stamp lies within its call.
+  -- (a) There is one arrangement of the stamped calls, in the order of their stamps, in which a plain map gives every result.
   pub record Log (h : History K) (s : State K) : Type 0 where
     pub calls : List (StampedCall K)
-    pub all : (c : StampedCall K) → IsStamped h s c → List·Memᴰ c calls
-    pub only : (c : StampedCall K) → List·Memᴰ c calls → IsStamped h s c
-    pub once : Once (numbers calls)
-    pub rising : Rising calls
+    pub ordered : Ordered h s calls
     pub plain : Plain calls
     pub unlike : Unlike same (fed calls)
-    -- A number is given to one opening only.
-    pub opened-once : (c d : StampedCall K) (t u : ℕ) → Asked h t c → Asked h u d → c .number ≡ d .number → (t ≡ u) × (c .ask ≡ d .ask) × (c .key ≡ d .key) × (c .at ≡ d .at)
-    -- The stamp is the number of a turn of its own call, and not after its end, which tells the same result and stamp.
-    pub own : (c : StampedCall K) → List·Memᴰ c calls → OwnTurn h c
-    pub before-end : (c : StampedCall K) → List·Memᴰ c calls → (t e : ℕ) (r : Outcome) (n : ℕ) → TurnOf h t (c .number) e (Turned (Ok (Finished (record { outcome = r; stamp = n })))) ⊎ WithdrawalOf h t (c .number) e (Withdrew (Ok (Settled (record { outcome = r; stamp = n })))) → (r ≡ c .result) × (n ≡ c .stamp) × (c .stamp ≤ e)
-    pub before-now : (c : StampedCall K) → List·Memᴰ c calls → c .stamp ≤ s .table .ticks
 
   module _ (hash : K → ℕ) where
     -- (b) The pairs reached from the root are those of a map, each in one place, and as many.

@@ -1,0 +1,4 @@
+pub mod Deeds
+pub mod Book
+pub mod Entries
+pub mod Order

@@ -1,8 +1,8 @@
 -- FNV-1a gives 32 bits, and equality of codes is that of their presses.
 use mathlib.Core.Path.{_≡_, refl, sym, ap, _∙_}
 use mathlib.Core.List.{List, [], _∷_}
-use mathlib.Core.Bool.{Bool, true}
-use Prim.Native.Nat.{ℕ, _*_, _%_, _^_, _<_}
+use mathlib.Core.Bool.{Bool}
+use Prim.Native.Nat.{ℕ, _*_, _^_, _<_}
 use borrow.Author.Needs.{needs}
 use lib.Bits.{bitXor}
 use lib.Dec.{lit<}

@@ -1,9 +1,9 @@
 -- The computed counts are the numbers of reached places, each once.
 use mathlib.Core.Path.{_≡_, refl, sym, ap, subst, _∙_}
-use mathlib.Core.Bool.{Bool, true, false, cond, _||_}
-use mathlib.Core.List.{List, [], _∷_, _++_, List·Memᴰ, List·Memᴰ·head, List·Memᴰ·tail, Memᴰ·append-left, Memᴰ·append-right, List·Memᴰ·append-cases, List·Memᴰ·eq-of-singleton}
+use mathlib.Core.Bool.{Bool, true, false, cond}
+use mathlib.Core.List.{List, [], _∷_, List·Memᴰ, List·Memᴰ·head, List·Memᴰ·tail, Memᴰ·append-left, Memᴰ·append-right, List·Memᴰ·append-cases, List·Memᴰ·eq-of-singleton}
 use mathlib.Core.Logic.{_⊎_, inl, inr, ⊎-elim}
-use Prim.Native.Nat.{ℕ, zero, suc, _+_, _<_, _≤_}
+use Prim.Native.Nat.{ℕ, zero, suc, _<_}
 use native.Mathlib.Omega.{arith}
 use lib.Dec.{eqb, ltb}
 use lib.ListN.{length}
@@ -13,7 +13,7 @@ use Rattle.std.specs.declared.option.Option.the-variants.{Some, None}
 use Rattle.std.proofs.shelf.Tests.{eqb-true, eq-eqb, ltb-true, lt-ltb, cases-eq, or-cases, or-left, or-right, false≢true}
 use Rattle.mains.specs.declared.Main.{Main}
 use Rattle.mains.specs.declared.Main.the-variants.{Node as node, Tomb as tomb, List as listing}
-use Rattle.rules.specs.Memory.{Memory, mainAt, mainIn, mainLimit, then}
+use Rattle.rules.specs.Memory.{Memory, mainAt, mainLimit}
 use Rattle.rules.specs.Reached.{Reached, ReachedCell, ReachedPair, ReachedTomb, HowMany, Once, cellsOf, pairsOf, isTomb, member, those, ofMain, tombAt, inside, named, tombsIn, level, gathered, cellCount, pairCount, tombCount}
 use Rattle.rules.specs.Sanity.{Counted}
 use Rattle.rules.specs.Sound.{soundIn}

@@ -1,8 +1,7 @@
 -- What is reached is what following a hash leads to.
 use mathlib.Core.Path.{_≡_, refl, sym, ap, subst, _∙_}
 use mathlib.Core.Bool.{Bool, true, false, cond}
-use mathlib.Core.List.{List, List·Memᴰ}
-use Prim.Native.Nat.{ℕ, zero, suc, _+_, _*_, _/_, _%_, _^_, _<_, _≤_}
+use Prim.Native.Nat.{ℕ, zero, suc, _+_, _*_, _/_, _%_, _^_, _<_}
 use native.Mathlib.Omega.{arith}
 use native.Mathlib.Nat.{add-comm, mod-eq-of-lt}
 use lib.Dec.{ltb}
@@ -11,7 +10,7 @@ use Rattle.keys.specs.Routes.{chunkAt, prefixAt, Together}
 use Rattle.keys.proofs.Chunks.{prefix-by-chunks, prefix-next, chunk-below}
 use Rattle.std.specs.declared.option.Option.{Option}
 use Rattle.std.specs.declared.option.Option.the-variants.{Some, None}
-use Rattle.std.proofs.shelf.Bits.{div-mul-add, mod-mul-add, mul-add-lt, pow-pos, pow-add}
+use Rattle.std.proofs.shelf.Bits.{div-mul-add, mod-mul-add, mul-add-lt, pow-add}
 use Rattle.std.proofs.shelf.Tests.{ltb-true, lt-ltb}
 use Rattle.mains.specs.Nodes.{branchAt}
 use Rattle.mains.specs.declared.Branch.{Branch}
@@ -20,7 +19,7 @@ use Rattle.mains.specs.declared.Main.{Main}
 use Rattle.mains.specs.declared.Main.the-variants.{Node as node, Tomb as tomb, List as listing}
 use Rattle.mains.specs.declared.Node.{Node}
 use Rattle.rules.specs.Memory.{Memory, then}
-use Rattle.rules.specs.Reached.{Reached, StandsFor, cellsOf}
+use Rattle.rules.specs.Reached.{Reached, StandsFor}
 use Rattle.rules.specs.Sanity.{cellBy, cellBelow, walk, Followed}
 use Rattle.rules.specs.Sound.{soundIn}
 use Rattle.rules.proofs.Naming.{then-some, some-is, none-some, cell-at, at-cell}

@@ -1,22 +1,20 @@
 -- A formatted memory reaches its root, a node without branches, and nothing else.
 use mathlib.Core.Path.{_≡_, refl, sym, ap, subst, _∙_}
-use mathlib.Core.Bool.{Bool, true, false, cond, _&&_}
+use mathlib.Core.Bool.{Bool, true, false, cond}
 use mathlib.Core.List.{List, [], _∷_, List·Memᴰ}
-use Prim.Native.Nat.{ℕ, zero, suc, _+_, _*_, _<_, _≤_}
+use Prim.Native.Nat.{ℕ, _<_}
 use native.Mathlib.Omega.{arith}
 use lib.Dec.{leb}
 use lib.ListN.{length, set, length-set}
-use Rattle.std.specs.declared.option.Option.{Option}
 use Rattle.std.specs.declared.option.Option.the-variants.{Some, None}
 use Rattle.std.proofs.shelf.Tests.{and-parts, leb-true}
-use Rattle.panel.specs.declared.Refusal.{Refusal}
 use Rattle.panel.specs.declared.Refusal.the-variants.{FigureOutOfLimits, TooLittleMemory}
 use Rattle.mains.specs.Nodes.{emptyNode}
 use Rattle.mains.specs.declared.Main.{Main}
 use Rattle.mains.specs.declared.Main.the-variants.{Node as node}
 use Rattle.rules.specs.Calls.{between, inLimits, suffices, wordsNeeded, mainsNeeded, formatRefusal, formatted}
 use Rattle.rules.specs.Memory.{Memory}
-use Rattle.rules.specs.Reached.{Reached, ReachedPair, ReachedTomb, branchesOf, cellsOf, pairsOf, isTomb}
+use Rattle.rules.specs.Reached.{Reached, branchesOf, cellsOf, pairsOf, isTomb}
 use Rattle.rules.specs.Sanity.{Fresh, FormatsFresh}
 use Rattle.rules.specs.Sound.{soundIn}
 use Rattle.rules.specs.declared.Figures.{Figures}
@@ -24,7 +22,7 @@ use Rattle.rules.specs.declared.Pair.{Pair}
 use Rattle.rules.proofs.Naming.{some-is}
 
 -- Figures that are accepted lie within the limits, and the memory suffices.
-accepted : {K : Type 0} (f : Figures) (m : Memory K) → formatRefusal f m ≡ None → (inLimits f ≡ true) × (suffices f m ≡ true)
+pub accepted : {K : Type 0} (f : Figures) (m : Memory K) → formatRefusal f m ≡ None → (inLimits f ≡ true) × (suffices f m ≡ true)
 accepted f m e = by (inLimits f) (suffices f m) refl refl e
   where
     by : (a b : Bool) → inLimits f ≡ a → suffices f m ≡ b → cond a (cond b None (Some TooLittleMemory)) (Some FigureOutOfLimits) ≡ None → (inLimits f ≡ true) × (suffices f m ≡ true)

@@ -1,10 +1,10 @@
 -- The laws of the plain map.
-use mathlib.Core.Path.{_≡_, refl, sym, ap, subst, _∙_}
+use mathlib.Core.Path.{_≡_, refl, ap, _∙_}
 use mathlib.Core.Bool.{Bool, true, false, cond}
 use mathlib.Core.List.{List, [], _∷_, List·Memᴰ, List·Memᴰ·head, List·Memᴰ·tail}
 use Prim.Native.Nat.{ℕ}
 use Rattle.std.specs.declared.option.Option.the-variants.{Some, None}
-use Rattle.std.proofs.shelf.Tests.{both-ways, cond-true, cond-false, true≢false}
+use Rattle.std.proofs.shelf.Tests.{both-ways}
 use Rattle.keys.specs.Laws.{KeyLaws}
 use Rattle.rules.specs.PlainMap.{find, without, mapAfter, Unlike, MapLaws}
 use Rattle.rules.specs.declared.Ask.{Ask}

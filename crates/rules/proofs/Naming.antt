@@ -1,23 +1,23 @@
 -- What a main names, chunk by chunk.
 use mathlib.Core.Path.{_≡_, refl, sym, ap, _∙_}
-use mathlib.Core.Bool.{Bool, true, false, cond, _&&_}
-use mathlib.Core.List.{List, [], _∷_, _++_, List·Memᴰ, List·Memᴰ·head, List·Memᴰ·tail, Memᴰ·append-left, Memᴰ·append-right, List·Memᴰ·append-cases, List·Memᴰ·eq-of-singleton}
-use mathlib.Core.Logic.{_⊎_, inl, inr, ⊎-elim}
-use Prim.Native.Nat.{ℕ, zero, suc, _+_, _<_, _≤_}
+use mathlib.Core.Bool.{Bool, true, false, cond}
+use mathlib.Core.List.{List, [], _∷_, List·Memᴰ, List·Memᴰ·head, List·Memᴰ·tail, Memᴰ·append-left, Memᴰ·append-right, List·Memᴰ·append-cases, List·Memᴰ·eq-of-singleton}
+use mathlib.Core.Logic.{_⊎_, ⊎-elim}
+use Prim.Native.Nat.{ℕ, zero, suc, _<_, _≤_}
 use native.Mathlib.Omega.{arith}
 use Rattle.std.specs.Vec.{listOf}
 use Rattle.std.specs.declared.option.Option.{Option}
 use Rattle.std.specs.declared.option.Option.the-variants.{Some, None}
-use Rattle.std.proofs.shelf.Tests.{cases-eq, and-parts, leb-true, false≢true}
+use Rattle.std.proofs.shelf.Tests.{cases-eq, and-parts, leb-true}
 use Rattle.mains.specs.Nodes.{branchAt}
 use Rattle.mains.specs.declared.Branch.{Branch}
 use Rattle.mains.specs.declared.Branch.the-variants.{Pair as pair, Cell as cell}
 use Rattle.mains.specs.declared.Main.{Main}
-use Rattle.mains.specs.declared.Main.the-variants.{Node as node, Tomb as tomb, List as listing}
+use Rattle.mains.specs.declared.Main.the-variants.{Node as node}
 use Rattle.mains.specs.declared.Node.{Node}
 use Rattle.rules.specs.Memory.{Memory, mainIn, then}
 use Rattle.rules.specs.Reached.{cellsIn, branchesTo, branchesOf, cellsOf}
-use Rattle.rules.specs.Sound.{sound, ifSound, soundIn, soundNode}
+use Rattle.rules.specs.Sound.{sound, ifSound, soundIn}
 
 -- A value that may be missing and leads to something is there.
 pub then-some : {A B : Type 0} (o : Option A) (f : A → Option B) (b : B) → then o f ≡ Some b → (a : A) × (o ≡ Some a) × (f a ≡ Some b)

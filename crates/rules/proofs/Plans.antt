@@ -1,5 +1,5 @@
 -- What holds of every kind of plan holds of the plan that follows from anything seen.
-use mathlib.Core.Path.{_≡_, refl, sym, ap, _∙_}
+use mathlib.Core.Path.{_≡_, refl, sym, ap}
 use mathlib.Core.Bool.{Bool, true, false, cond, _&&_}
 use mathlib.Core.List.{List}
 use Prim.Native.Nat.{ℕ, _-_}
@@ -20,7 +20,7 @@ use Rattle.mains.specs.declared.Main.the-variants.{Node as node, Tomb as tomb, 
 use Rattle.mains.specs.declared.Node.{Node}
 use Rattle.mains.specs.declared.PairList.{PairList}
 use Rattle.rules.specs.Memory.{Memory}
-use Rattle.rules.specs.Sanity.{suits, indexRead, Fault, unsuited, unsound, missing}
+use Rattle.rules.specs.Sanity.{Fault, unsuited, unsound, missing}
 use Rattle.rules.specs.Seats.{isIdle, isCut}
 use Rattle.rules.specs.Sound.{sound, pairsAt, allAlike}
 use Rattle.rules.specs.Turns.{atNothing, atEqual, atOther, notListed, listedAt, placeOf, atPlace, climbed, givesUp, climbs, atParent, afterSwap, afterClean, atPair, atBranch, atList, readPlan, parentPlan, decide}

@@ -1,8 +1,8 @@
 -- A refusal leaves all as it was, but for a full table or list; and an open seat is refused only for its memory.
-use mathlib.Core.Path.{_≡_, refl, sym, ap, _∙_}
+use mathlib.Core.Path.{_≡_, refl, sym, _∙_}
 use mathlib.Core.Bool.{Bool, true, false, cond, not, _&&_}
 use mathlib.Core.List.{List}
-use mathlib.Core.Logic.{_⊎_, inl, inr}
+use mathlib.Core.Logic.{inl, inr}
 use Prim.Native.Nat.{ℕ, suc}
 use native.Mathlib.Omega.{arith}
 use lib.Dec.{leb}
@@ -17,10 +17,10 @@ use Rattle.panel.specs.declared.Refusal.the-variants.{SeatIdle, SeatTaken, NoSu
 use Rattle.rules.specs.Calls.{Left, refusedAs, withCall, opened, withdrawn, withdrawal}
 use Rattle.rules.specs.Edits.{addsPair, linksOf}
 use Rattle.rules.specs.Memory.{Memory, State, lastCount}
-use Rattle.rules.specs.Perform.{Picks, Out, seated, turned, performed, enough, full, quitted, refused, going, madeMemory, pendingFor}
+use Rattle.rules.specs.Perform.{Picks, seated, performed, enough, full, quitted, refused, going, madeMemory, pendingFor}
 use Rattle.rules.specs.Sanity.{Leaves, untouched, freed, Refusals, Fault, Decides}
 use Rattle.rules.specs.Seats.{seatOf, noSeat, idleSeat, isIdle, hoping, prepared}
-use Rattle.rules.specs.Turns.{decide, decided, look, keyed, Planned, refusing, planned}
+use Rattle.rules.specs.Turns.{decided, look, keyed, refusing, planned}
 use Rattle.rules.specs.declared.Ask.{Ask}
 use Rattle.rules.specs.declared.Plan.{Plan}
 use Rattle.rules.specs.declared.Plan.the-variants.{Refuse, Quit, Finish, Settle, Close, Go, Make}

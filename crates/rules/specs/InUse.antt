@@ -1,19 +1,17 @@
 -- Which places are in use: the reached ones, and those that an open call names.
 use mathlib.Core.Path.{_≡_}
 use mathlib.Core.Bool.{Bool, true, false}
-use mathlib.Core.List.{List, [], _∷_, List·Memᴰ}
-use Prim.Native.Nat.{ℕ, _+_}
-use lib.ListN.{length}
+use mathlib.Core.List.{List·Memᴰ}
+use Prim.Native.Nat.{ℕ}
 use Rattle.std.specs.Finite.{nth}
 use Rattle.std.specs.declared.option.Option.the-variants.{Some}
 use Rattle.mains.specs.declared.Main.{Main}
-use Rattle.rules.specs.Memory.{Memory, State, mainAt}
+use Rattle.rules.specs.Memory.{State, mainAt}
 use Rattle.rules.specs.Reached.{ReachedCell, ReachedMain, ReachedPair, isTomb}
 use Rattle.rules.specs.Seats.{seatOf, isIdle, isPut, pathCells, newCells}
 use Rattle.rules.specs.declared.NewCell.{NewCell}
 use Rattle.rules.specs.declared.Phase.{Phase}
 use Rattle.rules.specs.declared.Phase.the-variants.{Idle, Read, Swap, Climb, Parent, Clean}
-use Rattle.rules.specs.declared.Seat.{Seat}
 
 -- Whether a phase has a swap prepared.
 abbrev pub isPending : Phase → Bool

@@ -17,8 +17,8 @@ use Rattle.rules.specs.Edits.{edited, makesPair, addsPair, linksOf, Link, chai
 use Rattle.rules.specs.InUse.{CellInUse, MainInUse, PairInUse}
 use Rattle.rules.specs.Memory.{Memory, State, mainLimit}
 use Rattle.rules.specs.Reached.{Once, cellCount, pairCount}
-use Rattle.rules.specs.Seats.{seatOf, idleSeat, hoping, prepared, settledSeat, stampedBy, chainOf}
-use Rattle.rules.specs.Turns.{Planned, planned}
+use Rattle.rules.specs.Seats.{seatOf, idleSeat, hoping, prepared, settledSeat, chainOf}
+use Rattle.rules.specs.Turns.{planned}
 use Rattle.rules.specs.declared.Ask.{Ask}
 use Rattle.rules.specs.declared.Ask.the-variants.{Get, Put, Cut}
 use Rattle.rules.specs.declared.Edit.{Edit}

@@ -7,10 +7,8 @@ use lib.Dec.{eqb}
 use lib.ListN.{replicate}
 use Rattle.keys.specs.Hashes.{cardHash}
 use Rattle.keys.specs.declared.cards.Card.{Card}
-use Rattle.std.specs.declared.result.Result.{Result}
 use Rattle.std.specs.declared.result.Result.the-variants.{Ok, Err}
-use Rattle.panel.specs.declared.Refusal.{Refusal}
-use Rattle.panel.specs.declared.Refusal.the-variants.{SeatIdle, TableFull, ListFull}
+use Rattle.panel.specs.declared.Refusal.the-variants.{SeatIdle, TableFull}
 use Rattle.mains.specs.declared.Main.the-variants.{Tomb as tomb}
 use Rattle.rules.specs.Calls.{formatted, opened, withdrawn, counted, wordsNeeded, mainsNeeded, pairsNeeded, keysNeeded}
 use Rattle.rules.specs.Memory.{Memory, State}
@@ -19,12 +17,11 @@ use Rattle.rules.specs.declared.Ask.{Ask}
 use Rattle.rules.specs.declared.Ask.the-variants.{Get, Put, Cut}
 use Rattle.rules.specs.declared.Figures.{Figures}
 use Rattle.rules.specs.declared.Outcome.{Outcome}
-use Rattle.rules.specs.declared.Outcome.the-variants.{Found, Absent, Stored, Removed}
+use Rattle.rules.specs.declared.Outcome.the-variants.{Found, Stored, Removed}
 use Rattle.rules.specs.declared.Reply.{Reply}
 use Rattle.rules.specs.declared.Reply.the-variants.{Opened, Turned, Withdrew, Counted}
-use Rattle.rules.specs.declared.Stamped.{Stamped}
 use Rattle.rules.specs.declared.Turned.the-variants.{Going, Finished}
-use Rattle.rules.specs.declared.Withdrawn.the-variants.{Undone, Settled}
+use Rattle.rules.specs.declared.Withdrawn.the-variants.{Settled}
 
 -- A card by its number.
 abbrev pub card : ℕ → Card

@@ -1,7 +1,6 @@
 -- Laws that the rules must have if they say what they should.
 use mathlib.Core.Path.{_≡_}
 use mathlib.Core.Bool.{Bool, true, false, cond}
-use mathlib.Core.List.{List, [], _∷_, List·Memᴰ}
 use mathlib.Core.Logic.{_⊎_}
 use Prim.Native.Nat.{ℕ, zero, suc, _-_, _*_, _^_, _<_}
 use lib.Dec.{ltb}
@@ -10,7 +9,7 @@ use Rattle.keys.specs.Routes.{chunkAt, prefixAt}
 use Rattle.std.specs.Finite.{nth}
 use Rattle.std.specs.declared.option.Option.{Option}
 use Rattle.std.specs.declared.option.Option.the-variants.{Some, None}
-use Rattle.std.specs.declared.result.Result.the-variants.{Ok, Err}
+use Rattle.std.specs.declared.result.Result.the-variants.{Err}
 use Rattle.panel.specs.declared.Refusal.{Refusal}
 use Rattle.panel.specs.declared.Refusal.the-variants.{TableFull, ListFull, MemoryUnfit}
 use Rattle.mains.specs.Nodes.{branchAt, emptyNode}

@@ -1,11 +1,9 @@
 -- One turn: what it reads or swaps, what follows from that, and what is then done.
-use mathlib.Core.Path.{_≡_}
-use mathlib.Core.Bool.{Bool, true, false, cond, _&&_, _||_}
-use mathlib.Core.List.{List, [], _∷_, List·Memᴰ}
-use mathlib.Core.Logic.{_⊎_}
-use Prim.Native.Nat.{ℕ, suc, _+_, _-_, _<_, _≤_, min}
+use mathlib.Core.Bool.{Bool, true, false, cond, _&&_}
+use mathlib.Core.List.{List, [], _∷_}
+use Prim.Native.Nat.{ℕ, _+_, _-_}
 use lib.Dec.{eqb, ltb, leb}
-use lib.ListN.{length, getD, set}
+use lib.ListN.{getD, set}
 use Rattle.keys.specs.Routes.{chunkAt}
 use Rattle.std.specs.Finite.{nth}
 use Rattle.std.specs.declared.option.Option.{Option}
@@ -13,7 +11,7 @@ use Rattle.std.specs.declared.option.Option.the-variants.{Some, None}
 use Rattle.std.specs.declared.result.Result.{Result}
 use Rattle.std.specs.declared.result.Result.the-variants.{Ok, Err}
 use Rattle.panel.specs.declared.Refusal.{Refusal}
-use Rattle.panel.specs.declared.Refusal.the-variants.{NoSuchSeat, SeatIdle, CountersSpent, MemoryUnfit, TableFull, ListFull}
+use Rattle.panel.specs.declared.Refusal.the-variants.{NoSuchSeat, SeatIdle, CountersSpent, MemoryUnfit, ListFull}
 use Rattle.mains.specs.Lists.{listed, unlisted}
 use Rattle.mains.specs.Nodes.{branchAt, removed, replaced}
 use Rattle.mains.specs.declared.Branch.{Branch}
@@ -22,18 +20,14 @@ use Rattle.mains.specs.declared.Main.{Main}
 use Rattle.mains.specs.declared.Main.the-variants.{Node as node, Tomb as tomb, List as listing}
 use Rattle.mains.specs.declared.Node.{Node}
 use Rattle.mains.specs.declared.PairList.{PairList}
-use Rattle.rules.specs.Edits.{keptNode, keptList, edited, makesPair, addsPair, linksOf, chainFor, places, withCells, withMains, first, rest}
-use Rattle.rules.specs.InUse.{CellInUse, MainInUse, PairInUse}
+use Rattle.rules.specs.Edits.{keptNode, keptList}
 use Rattle.rules.specs.Memory.{Memory, State, mainAt, lastCount}
-use Rattle.rules.specs.Reached.{Once, cellCount, pairCount}
-use Rattle.rules.specs.Seats.{seatOf, noSeat, idleSeat, isIdle, isCut, lastCell, parentCell, restarted, grown, dropped, atTomb, hoping, prepared, settledSeat, stampedBy, moved, chainOf}
+use Rattle.rules.specs.Seats.{seatOf, noSeat, isIdle, isCut, lastCell, parentCell, restarted, grown, dropped, atTomb, moved}
 use Rattle.rules.specs.Sound.{sound, pairsAt}
 use Rattle.rules.specs.declared.Ask.{Ask}
 use Rattle.rules.specs.declared.Ask.the-variants.{Get, Put, Cut}
-use Rattle.rules.specs.declared.Edit.{Edit}
 use Rattle.rules.specs.declared.Edit.the-variants.{Fixed, Insert, Replace, Append, Relist, Split}
 use Rattle.rules.specs.declared.Fork.{Fork}
-use Rattle.rules.specs.declared.Outcome.{Outcome}
 use Rattle.rules.specs.declared.Outcome.the-variants.{Found, Absent, Stored, Removed}
 use Rattle.rules.specs.declared.Pair.{Pair}
 use Rattle.rules.specs.declared.Phase.{Phase}
@@ -43,9 +37,6 @@ use Rattle.rules.specs.declared.Plan.the-variants.{Refuse, Quit, Finish, Settl
 use Rattle.rules.specs.declared.Seat.{Seat}
 use Rattle.rules.specs.declared.Seen.{Seen}
 use Rattle.rules.specs.declared.Seen.the-variants.{Saw, Swapped}
-use Rattle.rules.specs.declared.Table.{Table}
-use Rattle.rules.specs.declared.Turned.{Turned}
-use Rattle.rules.specs.declared.Turned.the-variants.{Going, Finished}
 
 -- THE READ OR SWAP
 

@@ -1,19 +1,18 @@
 -- The cells below the root: listed by index, they are the shared prefixes, and few enough to be counted.
 use mathlib.Core.Path.{_≡_, refl, sym, ap, subst, _∙_}
 use mathlib.Core.List.{List, [], _∷_, _++_, map, List·Memᴰ, List·Memᴰ·head, List·Memᴰ·tail, Memᴰ·append-left, Memᴰ·append-right, List·Memᴰ·append-cases}
-use mathlib.Core.Bool.{Bool, true, false, cond}
+use mathlib.Core.Bool.{Bool, true}
 use mathlib.Core.Logic.{_⊎_, inl, inr, ⊎-elim}
-use Prim.Native.Nat.{ℕ, zero, suc, _+_, _*_, _^_, _%_, _<_, _≤_}
+use Prim.Native.Nat.{ℕ, zero, suc, _+_, _*_, _^_, _<_, _≤_}
 use native.Mathlib.Omega.{arith}
 use native.Mathlib.Nat.{mod-le, suc-mul}
-use lib.Dec.{eqb}
 use lib.ListN.{length, length-append, length-map}
-use Rattle.std.proofs.shelf.Tests.{eq-eqb, ne-eqb, cases-eq, cases-lt, both-ways}
+use Rattle.std.proofs.shelf.Tests.{eq-eqb, ne-eqb, cases-eq, both-ways}
 use Rattle.keys.specs.Laws.{KeyLaws}
 use Rattle.keys.specs.Routes.{prefixAt}
-use Rattle.sizing.specs.Demand.{occurrences, repeats, sharedPrefixes, summed, cellsFor}
+use Rattle.sizing.specs.Demand.{occurrences, sharedPrefixes, summed, cellsFor}
 use Rattle.sizing.specs.Law.{Once, Apart, Chosen, Shared, Cells}
-use Rattle.sizing.proofs.Repeats.{one-if, repeated-twice, twice-repeated, repeated-in, once-repeats}
+use Rattle.sizing.proofs.Repeats.{repeated-twice, twice-repeated, repeated-in, once-repeats}
 use Rattle.sizing.proofs.Pigeons.{once-below}
 
 -- A member of a mapped list comes from one of the list.

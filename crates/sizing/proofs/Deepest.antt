@@ -1,7 +1,6 @@
 -- What one hash more adds: the indices at which just one other hash has gone along with it.
 use mathlib.Core.Path.{_≡_, refl, sym, ap, subst, _∙_}
 use mathlib.Core.List.{List, [], _∷_, _++_, map}
-use mathlib.Core.Bool.{Bool, true, false, cond}
 use mathlib.Core.Logic.{_⊎_, inl, inr, ⊎-elim}
 use Prim.Native.Nat.{ℕ, zero, suc, _+_, _-_, _<_, _≤_, min}
 use native.Mathlib.Omega.{arith}
@@ -12,7 +11,7 @@ use Rattle.std.proofs.shelf.Ways.{tells}
 use Rattle.std.specs.Iters.{folded}
 use Rattle.std.proofs.shelf.Tests.{eq-eqb, ne-eqb, cases-lt, lt-ltb, le-ltb, le-leb, lt-leb}
 use Rattle.std.proofs.shelf.Sums.{folded-more}
-use Rattle.keys.specs.Routes.{prefixAt, partingAt, Parts, PrefixByChunks}
+use Rattle.keys.specs.Routes.{prefixAt, partingAt, Parts}
 use Rattle.keys.proofs.Chunks.{prefix-by-chunks, parting-parts}
 use Rattle.sizing.specs.Demand.{occurrences, repeats, sharedPrefixes, summed, cellsFor}
 use Rattle.sizing.specs.Depths.{largerTwo, deepestTwo}

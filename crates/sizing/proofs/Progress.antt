@@ -1,8 +1,8 @@
 -- What is known after some of the keys: how it begins, goes on and ends.
 use mathlib.Core.Path.{_≡_, refl, sym, ap, subst, _∙_}
 use mathlib.Core.List.{List, [], _∷_, _++_, map, List·Memᴰ}
-use mathlib.Core.Bool.{Bool, true, false, cond}
-use Prim.Native.Nat.{ℕ, _+_, _-_, _*_, _^_, _<_, _≤_}
+use mathlib.Core.Bool.{Bool, true, false}
+use Prim.Native.Nat.{ℕ, _+_, _-_, _^_, _<_, _≤_}
 use native.Mathlib.Omega.{arith}
 use lib.ListN.{length, getD, take}
 use lib.Seq.{take-all}
@@ -10,13 +10,12 @@ use Rattle.std.specs.Iters.{folded}
 use Rattle.std.proofs.shelf.Sums.{folded-more}
 use Rattle.std.proofs.shelf.Tests.{cond-true, cond-false}
 use Rattle.keys.specs.Laws.{KeyLaws}
-use Rattle.sizing.specs.declared.Capacity.{Capacity}
 use Rattle.sizing.specs.Demand.{holds, withKey, different, cellsFor, capacityOf}
 use Rattle.sizing.specs.Depths.{deepestTwo}
 use Rattle.sizing.specs.Law.{Counts}
 use Rattle.sizing.proofs.Below.{map-in, belowTo, cells-below, cells-are, cells-few}
 use Rattle.sizing.proofs.Choosing.{chosen-different}
-use Rattle.sizing.proofs.Deepest.{map-push, cells-more, deepest-ordered}
+use Rattle.sizing.proofs.Deepest.{map-push, cells-more}
 
 module _ {K : Type 0} (same : K → K → Bool) (hash : K → ℕ) where
   -- The different keys so far, their hashes, and the cells that they need.

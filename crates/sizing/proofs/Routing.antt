@@ -1,5 +1,5 @@
 -- The text of a route, from the chunks that were found.
-use mathlib.Core.Path.{_≡_, refl}
+use mathlib.Core.Path.{_≡_}
 use Prim.Native.Nat.{ℕ}
 use Rattle.keys.specs.Routes.{chunkAt}
 use Rattle.sizing.specs.Lines.{pointed, routeText}

@@ -1,15 +1,15 @@
 -- The book of a history: which calls are stamped, whose they are, and how each stands or ended. One event more keeps it.
 use mathlib.Core.Path.{_≡_, refl, sym, ap, subst, _∙_}
-use mathlib.Core.Bool.{Bool, true, false}
-use mathlib.Core.List.{List, [], _∷_, List·Memᴰ, List·Memᴰ·head, List·Memᴰ·tail}
+use mathlib.Core.Bool.{true, false}
+use mathlib.Core.List.{List, _∷_, List·Memᴰ, List·Memᴰ·head, List·Memᴰ·tail}
 use mathlib.Core.Logic.{_⊎_, inl, inr}
-use Prim.Native.Nat.{ℕ, zero, suc, _<_, _≤_}
+use Prim.Native.Nat.{ℕ, _<_, _≤_}
 use native.Mathlib.Omega.{arith}
 use Rattle.std.specs.Finite.{nth}
 use Rattle.std.specs.declared.option.Option.{Option}
 use Rattle.std.specs.declared.option.Option.the-variants.{Some, None}
 use Rattle.std.specs.declared.result.Result.the-variants.{Ok, Err}
-use Rattle.std.proofs.shelf.Tests.{cases-eq, false≢true}
+use Rattle.std.proofs.shelf.Tests.{cases-eq}
 use Rattle.rules.specs.History.{Event, History}
 use Rattle.rules.specs.Memory.{State}
 use Rattle.rules.specs.Reached.{Once}
@@ -23,7 +23,7 @@ use Rattle.rules.specs.declared.Seat.{Seat}
 use Rattle.rules.specs.declared.Stamped.{Stamped}
 use Rattle.rules.specs.declared.Turned.the-variants.{Going, Finished}
 use Rattle.rules.specs.declared.Withdrawn.the-variants.{Undone, Settled}
-use Rattle.theory.proofs.Deeds.{Phased}
+use Rattle.theory.specs.Records.{Phased}
 
 -- The number that a reply gives to an opening.
 abbrev pub openedBy : Reply → Option ℕ

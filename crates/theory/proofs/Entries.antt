@@ -19,15 +19,12 @@ use Rattle.rules.specs.Calls.{withCall, withdrawal}
 use Rattle.rules.specs.History.{Event, History}
 use Rattle.rules.specs.Memory.{Memory, State}
 use Rattle.rules.specs.Perform.{seated}
-use Rattle.rules.specs.Reached.{Once}
 use Rattle.rules.specs.Seats.{seatOf, noSeat, idleSeat, openedSeat, settledSeat, isIdle, stampedBy}
-use Rattle.rules.specs.Theorem.{StampedCall, Asked, numbers, Rising}
+use Rattle.rules.specs.Theorem.{StampedCall, numbers, Rising}
 use Rattle.rules.specs.declared.Ask.{Ask}
-use Rattle.rules.specs.declared.Call.{Call}
-use Rattle.rules.specs.declared.Call.the-variants.{Open, Turn, Withdraw, Count}
+use Rattle.rules.specs.declared.Call.the-variants.{Open, Turn, Withdraw}
 use Rattle.rules.specs.declared.Outcome.{Outcome}
-use Rattle.rules.specs.declared.Reply.{Reply}
-use Rattle.rules.specs.declared.Reply.the-variants.{Opened, Turned, Withdrew, Counted}
+use Rattle.rules.specs.declared.Reply.the-variants.{Opened, Turned, Withdrew}
 use Rattle.rules.specs.declared.Seat.{Seat}
 use Rattle.rules.specs.declared.Stamped.{Stamped}
 use Rattle.rules.specs.declared.Turned.{Turned as Answered}
@@ -35,7 +32,8 @@ use Rattle.rules.specs.declared.Turned.the-variants.{Going, Finished}
 use Rattle.rules.specs.declared.Withdrawn.{Withdrawn}
 use Rattle.rules.specs.declared.Withdrawn.the-variants.{Undone, Settled}
 use Rattle.theory.proofs.Book.{Book, Recorded, Sitting, Ending, Life, Shift, Entered, openedBy, endedBy, seatIn, recorded-on, ending-on, entered}
-use Rattle.theory.proofs.Deeds.{Phased, phased-open, Onward, Act}
+use Rattle.theory.proofs.Deeds.{phased-open, Onward, Act}
+use Rattle.theory.specs.Records.{Phased}
 
 none-some : {A B : Type 0} {a : A} → _≡_ {A = Option A} None (Some a) → B
 none-some e = let z : _≡_ {A = ℕ} 0 1 = cc in absurd (omega arith)

@@ -3,23 +3,21 @@ use mathlib.Core.Path.{_≡_, refl, sym, ap, subst, _∙_}
 use mathlib.Core.Bool.{Bool, true, false, cond, not}
 use mathlib.Core.List.{List, [], _∷_, List·Memᴰ, List·Memᴰ·head, List·Memᴰ·tail}
 use mathlib.Core.Logic.{_⊎_, inl, inr}
-use Prim.Native.Nat.{ℕ, zero, suc, _<_, _≤_}
+use Prim.Native.Nat.{ℕ, zero, suc, _≤_}
 use native.Mathlib.Omega.{arith}
 use lib.Dec.{leb}
 use lib.ListN.{length, getD, replicate}
 use Rattle.std.specs.declared.option.Option.the-variants.{Some, None}
-use Rattle.std.specs.declared.result.Result.{Result}
-use Rattle.std.specs.declared.result.Result.the-variants.{Ok, Err}
+use Rattle.std.specs.declared.result.Result.the-variants.{Ok}
 use Rattle.std.proofs.shelf.Tests.{true≢false, leb-false}
-use Rattle.panel.specs.declared.Refusal.{Refusal}
 use Rattle.panel.specs.declared.Refusal.the-variants.{NoSuchSeat, SeatTaken, SeatIdle, CountersSpent, MemoryUnfit}
 use Rattle.rules.specs.Calls.{Left, refusedAs, formatted, opened, withCall, withdrawn, withdrawal}
 use Rattle.rules.specs.History.{Event, History, bears, Does, Runs}
 use Rattle.rules.specs.Memory.{Memory, State, lastCount}
-use Rattle.rules.specs.Perform.{Out, Picks, Turns, seated, turned}
+use Rattle.rules.specs.Perform.{Out, seated}
 use Rattle.rules.specs.Reached.{Once}
 use Rattle.rules.specs.Seats.{seatOf, noSeat, idleSeat, isIdle, stampedBy}
-use Rattle.rules.specs.Theorem.{StampedCall, Asked, TurnOf, WithdrawalOf, Ends, IsStamped, Ordered, Stays, numbers, Rising}
+use Rattle.rules.specs.Theorem.{StampedCall, Asked, TurnOf, WithdrawalOf, Ends, IsStamped, Ordered, numbers, Rising}
 use Rattle.rules.specs.declared.Ask.{Ask}
 use Rattle.rules.specs.declared.Call.{Call}
 use Rattle.rules.specs.declared.Call.the-variants.{Open, Turn, Withdraw, Count}
@@ -35,12 +33,12 @@ use Rattle.rules.specs.declared.Withdrawn.the-variants.{Undone, Settled}
 use Rattle.theory.proofs.Book.{Book, Recorded, Ending, openedBy, endedBy}
 use Rattle.theory.proofs.Deeds.{Deed, turn-deed}
 use Rattle.theory.proofs.Entries.{Next, heard, act-entered, withdrawal-entered, opening-entered}
-use Rattle.theory.specs.Orders.{Orders, OrderTheorem}
+use Rattle.theory.specs.Orders.{OrderTheorem}
 
 -- THE BOOK OF A HISTORY
 
 -- All seats of a fresh table are idle.
-all-idle : (n t : ℕ) → getD (replicate n idleSeat) t idleSeat ≡ idleSeat
+pub all-idle : (n t : ℕ) → getD (replicate n idleSeat) t idleSeat ≡ idleSeat
 all-idle zero t = refl
 all-idle (suc n) zero = refl
 all-idle (suc n) (suc t) = all-idle n t

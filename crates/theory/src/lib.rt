@@ -1,10 +1,34 @@
 // What holds of every history of a table, whatever its schedule. The statements are about the definitions of the rules.
+ghost use Rattle.rules.specs.Memory.{Memory};
 ghost use Rattle.theory.specs.Orders.{OrderTheorem};
+ghost use Rattle.theory.specs.Places.{RoomSuffices, Tells};
+ghost use Rattle.theory.specs.Records.{SteadyTheorem};
 use keys::Key;
 
 // The stamped calls of a history have an order: the theorem, for every key kind.
 pub fn stamps_order<K: Key>() -> u8
     ensures { λ _. ⌜ OrderTheorem (K·Key .same) (K·Key .hash) ⌝ }
+{
+    0
+}
+
+// While the places in use leave enough, whatever a turn takes suffices.
+pub fn room_suffices<K: Key>() -> u8
+    ensures { λ _. ⌜ RoomSuffices (K·Key .same) (K·Key .hash) ⌝ }
+{
+    0
+}
+
+// A count tells the number of what is reached, however that is listed.
+pub fn counts_tell<K: Key>() -> u8
+    ensures { λ _. ⌜ ((m : Memory K) → Tells (K·Key .same) (K·Key .hash) m) ⌝ }
+{
+    0
+}
+
+// After every history the table keeps its figures, its memory their need, and each seat the rules of its record.
+pub fn records_steady<K: Key>() -> u8
+    ensures { λ _. ⌜ SteadyTheorem (K·Key .same) (K·Key .hash) ⌝ }
 {
     0
 }

@@ -1,5 +1,4 @@
 use mathlib.Core.Path.{refl}
-use Rattle.keys.specs.Routes.{partingAt}
 use Rattle.sizing.specs.Demand.{different, cellsFor}
 use Rattle.samples.specs.Figures.{sampleFigures}
 use Rattle.samples.proofs.sample_figures.Needs as need

@@ -1,9 +1,6 @@
-use mathlib.Core.Path.{_≡_, refl, sym, ap, _∙_}
-use mathlib.Core.Logic.{inl, inr}
-use Prim.Native.Nat.{ℕ, _+_}
-use lib.ListN.{getD, take}
+use mathlib.Core.Path.{refl, ap, _∙_}
 use lib.Seq.{take-all}
-use Rattle.sizing.specs.Depths.{largerTwo, deepestTwo}
+use Rattle.sizing.specs.Depths.{deepestTwo}
 use Rattle.sizing.proofs.Deepest.{deepest-more, larger-first, larger-second, larger-none}
 use Rattle.sizing.proofs.deepest_two.Needs as need
 use Rattle.sizing.proofs.deepest_two.Needs.{then-depth-deepest, else-depth-deepest·then-depth-second, else-depth-deepest·else-depth-second}

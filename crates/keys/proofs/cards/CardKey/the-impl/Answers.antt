@@ -1,5 +1,5 @@
 -- Cards keep the laws of a key kind.
-use mathlib.Core.Path.{_≡_, refl, sym, ap, _∙_}
+use mathlib.Core.Path.{refl, sym, ap, _∙_}
 use Prim.Native.Nat.{_/_, _%_, _^_}
 use native.Mathlib.Omega.{arith}
 use Rattle.std.proofs.shelf.Bits.{xor-lt}

@@ -3,5 +3,8 @@ pub mod Deeds
 pub mod Book
 pub mod Entries
 pub mod Order
-pub mod Lengths
 pub mod Steady
+pub mod Lengths
+pub mod Feeding
+pub mod Shown
+pub mod ShownMemory

@@ -1,3 +1,5 @@
+pub mod Records
 pub mod Orders
 pub mod Places
-pub mod Records
+pub mod Fed
+pub mod Shown

@@ -8,3 +8,4 @@ pub mod Lengths
 pub mod Feeding
 pub mod Shown
 pub mod ShownMemory
+pub mod Reaching

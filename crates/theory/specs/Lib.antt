@@ -3,3 +3,4 @@ pub mod Orders
 pub mod Places
 pub mod Fed
 pub mod Shown
+pub mod Reaching

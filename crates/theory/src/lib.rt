@@ -3,6 +3,7 @@ ghost use Rattle.rules.specs.Memory.{Memory};
 ghost use Rattle.theory.specs.Fed.{FeedTheorem};
 ghost use Rattle.theory.specs.Orders.{OrderTheorem};
 ghost use Rattle.theory.specs.Places.{RoomSuffices, Tells};
+ghost use Rattle.theory.specs.Reaching.{ShowsReach};
 ghost use Rattle.theory.specs.Records.{SteadyTheorem};
 ghost use Rattle.theory.specs.Shown.{ShowsEdits, ShowsMemory};
 use keys::Key;
@@ -52,6 +53,13 @@ pub fn edits_show() -> u8
 // The memory shows as the machine's, place by place.
 pub fn memory_shows<K: Key>() -> u8
     ensures { λ _. ⌜ ShowsMemory K ⌝ }
+{
+    0
+}
+
+// A hash leads to the same cells by the rules and in the memory shown, where that is intact.
+pub fn reach_shows<K: Key>() -> u8
+    ensures { λ _. ⌜ ((m : Memory K) → ShowsReach (K·Key .same) (K·Key .hash) m) ⌝ }
 {
     0
 }

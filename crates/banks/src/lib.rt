@@ -1,4 +1,6 @@
 // Banks of 16-bit words: what a bank is, and what can be done with any of them.
+#![tactic(auto)]
+
 ghost use Rattle.std.specs.Prelude.{◌≡◌, ℕ, ◌≤◌, List, length, slice_set};
 ghost use Rattle.banks.specs.Words.{read_answer, swap_answer, swapped, put_answer};
 

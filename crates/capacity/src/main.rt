@@ -1,4 +1,6 @@
 // Reads keys, one a line, and tells how large a table they need.
+#![tactic(auto)]
+
 use keys::{Card, Code, Key};
 use sizing::capacity_for;
 use sizing::lines::{KeyLine, Route, read_key};

@@ -1,4 +1,6 @@
 // Key kinds: what a key owes to a table, cards, codes, and the route of a hash.
+#![tactic(auto)]
+
 pub mod cards;
 pub mod keypad;
 pub mod kind;

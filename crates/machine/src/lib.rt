@@ -1,4 +1,6 @@
 // The machine of the table, without its code: what its memory and its seats may do, turn by turn, and what comes of it.
+#![tactic(auto)]
+
 ghost use Rattle.machine.specs.AtRest.{AlwaysOwned, AlwaysRuled, AtRest, LogStands, ReachedAlong};
 ghost use Rattle.machine.specs.Claim.{Claim};
 

@@ -1,4 +1,6 @@
 // Mains: what a cell of a hash trie holds, and the edits of branch nodes and of lists.
+#![tactic(auto)]
+
 mod lists;
 mod nodes;
 mod rows;

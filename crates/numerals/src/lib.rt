@@ -1,4 +1,6 @@
 // Numbers as lines write them: decimal, with no sign and no leading zero.
+#![tactic(auto)]
+
 ghost use Rattle.std.specs.Prelude.{◌≡◌, ℕ, ◌^◌, ◌<◌, decimal, MatchOption, ◌≢◌};
 
 // The number that the bytes write; none unless they are just the digits of a number of 64 bits.

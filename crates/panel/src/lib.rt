@@ -1,4 +1,6 @@
 // The refusals of the whole product, each with the number that the panel shows.
+#![tactic(auto)]
+
 ghost use Rattle.std.specs.Prelude.{◌≡◌, ◌++◌, Some, codes, decimal};
 ghost use Rattle.panel.specs.Numbers.{number, panel_text};
 ghost use Rattle.panel.specs.declared.Refusal.{Refusal};

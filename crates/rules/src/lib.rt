@@ -1,4 +1,6 @@
 // The types of a table: its memory, its seats, its calls. The rules about them are definitions, in specs/.
+#![tactic(auto)]
+
 ghost use Rattle.rules.specs.Memory.{Memory};
 ghost use Rattle.rules.specs.PlainMap.{MapLaws};
 ghost use Rattle.rules.specs.Samples.{Scripts};

@@ -1,4 +1,6 @@
 // Worked examples: figures that the checker computes from the definitions, and tests that run the code.
+#![tactic(auto)]
+
 ghost use Rattle.std.specs.Prelude.{◌≡◌};
 ghost use Rattle.samples.specs.Figures.{sample_figures_of};
 

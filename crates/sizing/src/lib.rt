@@ -1,4 +1,6 @@
 // How large a table must be for given keys.
+#![tactic(auto)]
+
 ghost use Rattle.std.specs.Prelude.{◌≡◌, ℕ, map, IfOk};
 ghost use Rattle.sizing.specs.Demand.{holds, capacity_of, within_limits_of};
 ghost use Rattle.sizing.specs.Depths.{deepest_two_of};

@@ -23,12 +23,12 @@ pub fn read_key(line: &[u8]) -> Result<KeyLine, Refusal>
         return Err(Refusal::LineMalformed);
     }
     let (name, text) = line.split_at(5);
-    if name == b"card=" {
+    if name == b"card=".as_slice() {
         match number(text) {
             Some(n) => Ok(KeyLine::OfCard(Card(n))),
             None => Err(Refusal::LineMalformed),
         }
-    } else if name == b"code=" {
+    } else if name == b"code=".as_slice() {
         match Code::read(text) {
             Ok(code) => Ok(KeyLine::OfCode(code)),
             Err(refusal) => Err(refusal),

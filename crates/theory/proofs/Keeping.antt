@@ -149,7 +149,7 @@ module _ {K : Type 0} (same : K → K → Bool) (hash : K → ℕ) {s : State K}
     sees key picks p words (Sees.parts e c n y l h b d) u = leaves words picks p (stock k) d
     sees key picks p words (Sees.cleans e c l h d) u = leaves words picks p (swapped c (ap is_pending e) (parent_owned x c o l)) d
     sees key picks p words (Sees.misses e b) u = walks words (stock k) _ _ refl (λ _. o.buried (ap is_burying e)) o.path
-    sees key picks p words (Sees.Gives-up e b) u = walks words (stock k) _ _ refl never (trod_root k.root)
+    sees key picks p words (Sees.gives_up_lem e b) u = walks words (stock k) _ _ refl never (trod_root k.root)
 
 module _ {K : Type 0} (same : K → K → Bool) (hash : K → ℕ) {f : Figures} where
   pub fresh_written : (m : Memory K) → format_refusal f m ≡ None → Written (formatted f m)

@@ -105,7 +105,7 @@ module _ {K : Type 0} (same : K → K → Bool) (hash : K → ℕ) (s : State K)
   sees key picks k p words (Sees.parts e c n y l h b d) u = leaves words picks p d
   sees key picks k p words (Sees.cleans e c l h d) u = leaves words picks p d
   sees key picks k p words (Sees.misses e b) u = walks _ refl
-  sees key picks k p words (Sees.Gives-up e b) u = walks _ refl
+  sees key picks k p words (Sees.gives_up_lem e b) u = walks _ refl
 
 module _ {K : Type 0} (same : K → K → Bool) (hash : K → ℕ) {f : Figures} (s : State K) (w : Steady f s) (all : AllPoised s.table.seats) where
   kept : Preserves same hash (λ z. AllPoised z.table.seats) s

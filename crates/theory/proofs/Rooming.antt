@@ -214,7 +214,7 @@ module _ {K : Type 0} (same : K → K → Bool) (hash : K → ℕ) (laws : KeyLa
     sees_allowed p words (Sees.parts e c n y l h u r) = leave_allowed p r
     sees_allowed p words (Sees.cleans e c l h r) = leave_allowed p r
     sees_allowed p words (Sees.misses e u) = tt
-    sees_allowed p words (Sees.Gives-up e u) = tt
+    sees_allowed p words (Sees.gives_up_lem e u) = tt
 
   -- Before anything is seen, only other refusals come.
   plan_allowed : (t : ℕ) → Allowed same hash s (planned same hash s t).plan

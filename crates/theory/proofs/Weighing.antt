@@ -162,7 +162,7 @@ module _ {K : Type 0} (same : K → K → Bool) (hash : K → ℕ) (laws : KeyLa
       sees_keeps p words (Sees.cleans e c l h v) takes grown after =
           leaves_keeps (set s.memory.words c (seat_of s t).pending.made) (clean_count same hash laws g t k o keyed-as c h e l) p v takes grown after
       sees_keeps p words (Sees.misses e u) takes grown after = quiet _ refl refl
-      sees_keeps p words (Sees.Gives-up e u) takes grown after = quiet _ refl refl
+      sees_keeps p words (Sees.gives_up_lem e u) takes grown after = quiet _ refl refl
 
   pub within_turn : (t : ℕ) (picks : Picks) (more : List (StampedCall K)) → Takes same hash s (planned same hash s t).plan picks
       → Grown s t calls (turned same hash s t picks).fixed more

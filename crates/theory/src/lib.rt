@@ -1,5 +1,7 @@
 // What holds of every history of a table, whatever its schedule, its memory and the unused places taken. The statements are
 // about the definitions of the rules.
+#![tactic(auto)]
+
 ghost use Rattle.theory.specs.Claims.{CallTheorem, FormatTheorem, LogTheorem};
 ghost use Rattle.theory.specs.Records.{SteadyTheorem};
 

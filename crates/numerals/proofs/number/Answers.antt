@@ -15,9 +15,9 @@ pub returns-then-text-gt1 : goal.returns-then-text-gt1
 returns-then-text-gt1 c =
     λ n fits e. unplain c.args.text.now n fits e (inr (inr (c.if-text-eq48.true, c.if-text-gt1.true)))
 
-pub returns-in-default : goal.returns-in-default
-returns-in-default c =
-    λ n fits e. c.in-default.ensures.cases.0 (subst IsUtf8 (sym e) (IsUtf8-from_ascii _ (IsAscii-decimal n fits)))
+pub returns-in_default : goal.returns-in_default
+returns-in_default c =
+    λ n fits e. c.in_default.ensures.cases.0 (subst IsUtf8 (sym e) (IsUtf8-from_ascii _ (IsAscii-decimal n fits)))
 
 pub returns-in-Ok-parse : goal.returns-in-Ok-parse
 returns-in-Ok-parse c =

@@ -11,30 +11,30 @@ loop-key-init g c =
     progress_none g.K.Key.same g.K.Key.hash (vec_items c.new-chosen.result) (vec_items c.new-hashes.result) c.new-chosen.ensures.items
     c.new-hashes.ensures.items
 
-deepest : (g : Over) (c : goal.In-ok-push-2 g) → c.deepest-two-deepest.result ≡ deepest_two_of c.hash-hash.result (vec_items c.loop-key.hashes)
-deepest g c = c.deepest-two-deepest.ensures ∙ ap (deepest_two_of c.hash-hash.result) c.as-slice-in-loop-key.ensures.value
+deepest : (g : Over) (c : goal.In_ok-push-2 g) → c.deepest_two-deepest.result ≡ deepest_two_of c.hash-hash.result (vec_items c.loop-key.hashes)
+deepest g c = c.deepest_two-deepest.ensures ∙ ap (deepest_two_of c.hash-hash.result) c.as_slice-in-loop-key.ensures.value
 
 -- After both pushes.
-grown : (g : Over) (c : goal.In-ok-push-2 g) → Progress g.K.Key.same g.K.Key.hash (take (c.loop-key.key-index + 1) c.args.keys.now) (vec_items c.push.new.self) (vec_items c.push-in-loop-key.new.self) (c.loop-key.cells + (c.deepest-two-deepest.result.0 - c.deepest-two-deepest.result.1))
+grown : (g : Over) (c : goal.In_ok-push-2 g) → Progress g.K.Key.same g.K.Key.hash (take (c.loop-key.key-index + 1) c.args.keys.now) (vec_items c.push.new.self) (vec_items c.push-in-loop-key.new.self) (c.loop-key.cells + (c.deepest_two-deepest.result.0 - c.deepest_two-deepest.result.1))
 grown g c =
     progress_more g.K.Key.same g.K.Key.hash c.args.keys.now (vec_items c.loop-key.chosen) (vec_items c.loop-key.hashes) c.loop-key.cells
     c.loop-key.key-index c.key-item.result c.loop-key-test.true c.key-item.is c.loop-key.invariant c.hash-hash.result c.hash-hash.ensures _ _
-    c.deepest-two-deepest.result
-    (c.if-is-held.ensures ∙ ap (λ ks. holds g.K.Key.same ks c.key-item.result) c.as-slice.ensures.value)
-    c.in-ok-push.ensures.items c.in-ok-push-2.ensures.items (deepest g c)
+    c.deepest_two-deepest.result
+    (c.if-is_held.ensures ∙ ap (λ ks. holds g.K.Key.same ks c.key-item.result) c.as_slice.ensures.value)
+    c.in_ok-push.ensures.items c.in_ok-push-2.ensures.items (deepest g c)
 
-pub overflow-sub-cells : goal.overflow-sub-cells
-overflow-sub-cells g c =
+pub overflow_sub-cells : goal.overflow_sub-cells
+overflow_sub-cells g c =
     subst (λ (two : ℕ × ℕ). two.1 ≤ two.0) (sym (deepest g c)) (deepest_ordered c.hash-hash.result (vec_items c.loop-key.hashes)).0
 
-pub overflow-add-cells : goal.overflow-add-cells
-overflow-add-cells g c = let fits = progress_fits g.K.Key.same g.K.Key.hash g.met.K.Key.lawful _ _ _ _ (grown g c) in omega arith
+pub overflow_add-cells : goal.overflow_add-cells
+overflow_add-cells g c = let fits = progress_fits g.K.Key.same g.K.Key.hash g.met.K.Key.lawful _ _ _ _ (grown g c) in omega arith
 
-pub loop-key-preserved-then-is-held : goal.loop-key-preserved-then-is-held
-loop-key-preserved-then-is-held g c =
+pub loop-key-preserved-then-is_held : goal.loop-key-preserved-then-is_held
+loop-key-preserved-then-is_held g c =
     progress_held g.K.Key.same g.K.Key.hash c.args.keys.now (vec_items c.loop-key.chosen) (vec_items c.loop-key.hashes) c.loop-key.cells
     c.loop-key.key-index c.key-item.result c.loop-key-test.true c.key-item.is c.loop-key.invariant
-    (c.if-is-held.ensures ∙ ap (λ ks. holds g.K.Key.same ks c.key-item.result) c.as-slice.ensures.value)
+    (c.if-is_held.ensures ∙ ap (λ ks. holds g.K.Key.same ks c.key-item.result) c.as_slice.ensures.value)
 
 pub loop-key-preserved : goal.loop-key-preserved
 loop-key-preserved g c = grown g c

@@ -10,7 +10,7 @@ loop-other-init c = refl
 
 pub loop-other-preserved : goal.loop-other-preserved
 loop-other-preserved c =
-    deepest_more c.args.hash c.args.others.now c.loop-other.other_index (c.loop-other.deepest, c.loop-other.second)
+    deepest_more c.args.hash c.args.others.now c.loop-other.other-index (c.loop-other.deepest, c.loop-other.second)
     (c.if-depth-deepest.deepest, c.if-depth-deepest.second) c.parting-depth.result c.loop-other-test.true c.loop-other.invariant c.parting-depth.ensures.value
     (elim c.if-depth-deepest.branch [
       | then-depth-deepest w ↦
@@ -28,4 +28,4 @@ loop-other-preserved c =
     ])
 
 pub returns : goal.returns
-returns c = c.loop-other.invariant ∙ ap (deepest_two_of c.args.hash) (take_all c.loop-other.other_index c.args.others.now c.loop-other-test.false)
+returns c = c.loop-other.invariant ∙ ap (deepest_two_of c.args.hash) (take_all c.loop-other.other-index c.args.others.now c.loop-other-test.false)

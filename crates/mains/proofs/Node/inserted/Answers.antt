@@ -12,6 +12,6 @@ returns c =
     let q = c.args.chunk in
     let x = c.args.branch in
     let w : WellFormed n = record { fits = search rules; row = search rules } in
-    let m : Node = record { bitmap = bit_or n.bitmap c.flag.result; branches = c.put-in.new.row } in
+    let m : Node = record { bitmap = bit_or n.bitmap c.flag.result; branches = c.put_in.new.row } in
     let e : m ≡ inserted n q x = search rules in
     record { value = e; law = subst (Inserts n q x) (sym e) (inserts n q x w) }

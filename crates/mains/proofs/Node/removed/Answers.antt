@@ -11,6 +11,6 @@ returns c =
     let n = c.args.self in
     let q = c.args.chunk in
     let w : WellFormed n = record { fits = search rules; row = search rules } in
-    let m : Node = record { bitmap = bit_xor n.bitmap c.flag.result; branches = c.take-out.new.row } in
+    let m : Node = record { bitmap = bit_xor n.bitmap c.flag.result; branches = c.take_out.new.row } in
     let e : m ≡ removed n q = search rules in
     record { value = e; law = subst (Removes n q) (sym e) (removes n q w) }

@@ -17,6 +17,6 @@ pub returns : goal.returns
 returns c =
     let l = c.args.self in
     let i = c.args.place in
-    let m : PairList = record { count = c.len-len.result - 1; pairs = c.take-out.new.row } in
+    let m : PairList = record { count = c.len-len.result - 1; pairs = c.take_out.new.row } in
     let e : m ≡ unlisted l i = search rules in
     record { value = e; law = subst (Relists l (without (listed l) i)) (sym e) (unlists l i) }

@@ -17,18 +17,18 @@ returns-then-cell-start g c =
       after = ap (λ part. capped (part ++ high)) c.put.ensures.after ∙ sits.write c.args.word;
     }
 
-pub returns-then-cell-lt-MOST-CELLS : goal.returns-then-cell-lt-MOST-CELLS
-returns-then-cell-lt-MOST-CELLS g c =
+pub returns-then-cell-lt-MOST_CELLS : goal.returns-then-cell-lt-MOST_CELLS
+returns-then-cell-lt-MOST_CELLS g c =
     let low = g.A.Bank.words c.args.self.now.first in
     let high = g.B.Bank.words c.args.self.now.second in
-    let sits = sits_high 65535 low high c.args.cell c.if-cell-lt-MOST-CELLS.true c.size-start.result c.size-start.ensures.answer c.if-cell-start.false in
+    let sits = sits_high 65535 low high c.args.cell c.if-cell-lt-MOST_CELLS.true c.size-start.result c.size-start.ensures.answer c.if-cell-start.false in
     record {
-      answer = c.put-then-cell-lt-MOST-CELLS.ensures.answer ∙ put_part sits;
-      after = ap (λ part. capped (low ++ part)) c.put-then-cell-lt-MOST-CELLS.ensures.after ∙ sits.write c.args.word;
+      answer = c.put-then-cell-lt-MOST_CELLS.ensures.answer ∙ put_part sits;
+      after = ap (λ part. capped (low ++ part)) c.put-then-cell-lt-MOST_CELLS.ensures.after ∙ sits.write c.args.word;
     }
 
-pub returns-else-cell-lt-MOST-CELLS : goal.returns-else-cell-lt-MOST-CELLS
-returns-else-cell-lt-MOST-CELLS g c =
+pub returns-else-cell-lt-MOST_CELLS : goal.returns-else-cell-lt-MOST_CELLS
+returns-else-cell-lt-MOST_CELLS g c =
     let low = g.A.Bank.words c.args.self.now.first in
     let high = g.B.Bank.words c.args.self.now.second in
     let words = capped (low ++ high) in

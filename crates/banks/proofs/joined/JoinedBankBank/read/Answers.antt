@@ -13,15 +13,15 @@ returns-then-cell-start g c =
     let sits = sits_low 65535 low high c.args.cell (omega arith) (omega arith) in
     record { answer = c.read.ensures.answer ∙ read_part sits }
 
-pub returns-then-cell-lt-MOST-CELLS : goal.returns-then-cell-lt-MOST-CELLS
-returns-then-cell-lt-MOST-CELLS g c =
+pub returns-then-cell-lt-MOST_CELLS : goal.returns-then-cell-lt-MOST_CELLS
+returns-then-cell-lt-MOST_CELLS g c =
     let low = g.A.Bank.words c.args.self.now.first in
     let high = g.B.Bank.words c.args.self.now.second in
-    let sits = sits_high 65535 low high c.args.cell c.if-cell-lt-MOST-CELLS.true c.size-start.result c.size-start.ensures.answer c.if-cell-start.false in
-    record { answer = c.read-then-cell-lt-MOST-CELLS.ensures.answer ∙ read_part sits }
+    let sits = sits_high 65535 low high c.args.cell c.if-cell-lt-MOST_CELLS.true c.size-start.result c.size-start.ensures.answer c.if-cell-start.false in
+    record { answer = c.read-then-cell-lt-MOST_CELLS.ensures.answer ∙ read_part sits }
 
-pub returns-else-cell-lt-MOST-CELLS : goal.returns-else-cell-lt-MOST-CELLS
-returns-else-cell-lt-MOST-CELLS g c =
+pub returns-else-cell-lt-MOST_CELLS : goal.returns-else-cell-lt-MOST_CELLS
+returns-else-cell-lt-MOST_CELLS g c =
     let low = g.A.Bank.words c.args.self.now.first in
     let high = g.B.Bank.words c.args.self.now.second in
     let words = capped (low ++ high) in

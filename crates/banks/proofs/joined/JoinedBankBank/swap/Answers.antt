@@ -16,18 +16,18 @@ returns-then-cell-start g c =
       after = ap (λ part. capped (part ++ high)) c.swap.ensures.after ∙ swapped_part sits c.args.old c.args.new;
     }
 
-pub returns-then-cell-lt-MOST-CELLS : goal.returns-then-cell-lt-MOST-CELLS
-returns-then-cell-lt-MOST-CELLS g c =
+pub returns-then-cell-lt-MOST_CELLS : goal.returns-then-cell-lt-MOST_CELLS
+returns-then-cell-lt-MOST_CELLS g c =
     let low = g.A.Bank.words c.args.self.now.first in
     let high = g.B.Bank.words c.args.self.now.second in
-    let sits = sits_high 65535 low high c.args.cell c.if-cell-lt-MOST-CELLS.true c.size-start.result c.size-start.ensures.answer c.if-cell-start.false in
+    let sits = sits_high 65535 low high c.args.cell c.if-cell-lt-MOST_CELLS.true c.size-start.result c.size-start.ensures.answer c.if-cell-start.false in
     record {
-      answer = c.swap-then-cell-lt-MOST-CELLS.ensures.answer ∙ swap_part sits c.args.old;
-      after = ap (λ part. capped (low ++ part)) c.swap-then-cell-lt-MOST-CELLS.ensures.after ∙ swapped_part sits c.args.old c.args.new;
+      answer = c.swap-then-cell-lt-MOST_CELLS.ensures.answer ∙ swap_part sits c.args.old;
+      after = ap (λ part. capped (low ++ part)) c.swap-then-cell-lt-MOST_CELLS.ensures.after ∙ swapped_part sits c.args.old c.args.new;
     }
 
-pub returns-else-cell-lt-MOST-CELLS : goal.returns-else-cell-lt-MOST-CELLS
-returns-else-cell-lt-MOST-CELLS g c =
+pub returns-else-cell-lt-MOST_CELLS : goal.returns-else-cell-lt-MOST_CELLS
+returns-else-cell-lt-MOST_CELLS g c =
     let low = g.A.Bank.words c.args.self.now.first in
     let high = g.B.Bank.words c.args.self.now.second in
     let words = capped (low ++ high) in

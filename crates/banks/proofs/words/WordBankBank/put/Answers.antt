@@ -6,8 +6,8 @@ use Rattle.banks.proofs.Parts.{put_part}
 use Rattle.banks.proofs.Front.{length_front, sits_front}
 use Rattle.banks.proofs.words.WordBankBank.put.Goals as goal
 
-pub offset-bounds-self-cell : goal.offset-bounds-self-cell
-offset-bounds-self-cell c = let e = length_front 65535 c.args.self.now.cells.now in search rules
+pub offset_bounds-self-cell : goal.offset_bounds-self-cell
+offset_bounds-self-cell c = let e = length_front 65535 c.args.self.now.cells.now in search rules
 
 pub bounds-self-cell : goal.bounds-self-cell
 bounds-self-cell c = let e = length_front 65535 c.args.self.now.cells.now in omega arith

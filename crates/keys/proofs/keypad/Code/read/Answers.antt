@@ -14,8 +14,8 @@ loop-i-preserved c =
     kept_more c.args.bytes.now c.loop-i.stored c.loop-i.i c.in-Some.b c.loop-i-test.true l c.in-Some.ensures
     (length-set c.loop-i.stored c.loop-i.i c.in-Some.b) c.loop-i.invariant
 
-pub returns-in-default : goal.returns-in-default
-returns-in-default c = misread_at c.args.bytes.now c.loop-i.i c.loop-i-test.true c.in-default.ensures
+pub returns-in_default : goal.returns-in_default
+returns-in_default c = misread_at c.args.bytes.now c.loop-i.i c.loop-i-test.true c.in_default.ensures
 
 pub returns : goal.returns
 returns c =

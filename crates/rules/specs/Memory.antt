@@ -25,10 +25,6 @@ last_count = 999999999999
 abbrev pub main_limit : ℕ
 main_limit = 65535
 
--- Pair places past the first 65,536 have no number of 16 bits, so nothing names them and none is taken.
-abbrev pub pair_limit : ℕ
-pair_limit = 65536
-
 -- The main in a main place; none if the place is outside the memory.
 abbrev pub main_at : List Main → ℕ → Option Main
 main_at mains n = cond (nat_lt n main_limit) (slice_get mains n) None

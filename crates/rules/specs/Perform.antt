@@ -6,7 +6,7 @@ use Rattle.panel.specs.declared.Refusal.{Refusal}
 use Rattle.panel.specs.declared.Refusal.TheVariants.{MemoryUnfit, TableFull}
 use Rattle.rules.specs.Edits.{edited, makes_pair, adds_pair, links_of, Link, chain_for, places, with_cells, with_mains, first, rest}
 use Rattle.rules.specs.InUse.{CellInUse, MainInUse, PairInUse}
-use Rattle.rules.specs.Memory.{Memory, State, main_limit, pair_limit}
+use Rattle.rules.specs.Memory.{Memory, State, main_limit}
 use Rattle.rules.specs.Reached.{Once, cell_count, pair_count}
 use Rattle.rules.specs.Seats.{seat_of, idle_seat, hoping, prepared, settled_seat, chain_of}
 use Rattle.rules.specs.Turns.{planned}
@@ -48,7 +48,7 @@ module _ {K : Type 0} (same : K → K → Bool) (hash : K → ℕ) where
   pub record Picked (s : State K) (edit : Edit) (picks : Picks) : Type 0 where
     pub cells : Unused (CellInUse same hash s) (length s.memory.words) (links_of edit) picks.cells
     pub mains : Unused (MainInUse same hash s) (min main_limit (length s.memory.mains)) (suc (links_of edit)) picks.mains
-    pub pairs : Unused (PairInUse same hash s) (min pair_limit (length s.memory.pairs)) (pairs_for edit) picks.pairs
+    pub pairs : Unused (PairInUse same hash s) (length s.memory.pairs) (pairs_for edit) picks.pairs
 
   -- Only what is prepared takes places.
   abbrev pub Takes : State K → Plan → Picks → Type 0

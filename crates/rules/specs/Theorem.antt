@@ -1,6 +1,7 @@
 -- The log theorem: what holds after any history on a formatted table.
 use Rattle.std.specs.Prelude.{◌≡◌, ℕ, ◌<◌, ◌≤◌, Bool, true, false, ◌⊎◌, List, [], ◌∷◌, length, Some, Ok, Err, ◌≢◌}
 use mathlib.Core.List.{Memᴰ}
+use Rattle.keys.specs.Laws.{KeyLaws}
 use Rattle.keys.specs.Routes.{prefix_at}
 use Rattle.std.specs.List.{slice_get}
 use Rattle.panel.specs.declared.Refusal.TheVariants.{MemoryUnfit}
@@ -162,6 +163,10 @@ module _ {K : Type 0} (same : K → K → Bool) (hash : K → ℕ) where
     pub compact : AtRest s → NoneWithdrawn h → Compact same hash s.memory
     pub unfit : NeverUnfit h
     pub stays : Stays h s
+
+  -- The theorem, of a key kind that keeps its laws.
+  abbrev pub LogTheorem : Type 0
+  LogTheorem = KeyLaws same hash → (f : Figures) (h : History K) (s : State K) → Runs same hash f h s → Stands h s
 
   -- The history with one call more.
   abbrev pub extended : History K → State K → Call K → Reply → State K → History K

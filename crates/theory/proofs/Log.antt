@@ -6,7 +6,7 @@ use Rattle.machine.specs.Turn.{Turns}
 use Rattle.rules.specs.Calls.{formatted}
 use Rattle.rules.specs.History.{History, Runs}
 use Rattle.rules.specs.Memory.{State}
-use Rattle.rules.specs.Theorem.{StampedCall, Log, Stands, NoneWithdrawn, AtRest, Compact, extended}
+use Rattle.rules.specs.Theorem.{StampedCall, Log, Stands, NoneWithdrawn, AtRest, Compact, LogTheorem, extended}
 use Rattle.rules.specs.declared.Figures.{Figures}
 use Rattle.theory.proofs.Feeding.{feeds}
 use Rattle.theory.proofs.Ground.{Ground}
@@ -16,7 +16,7 @@ use Rattle.theory.proofs.Running.{Known, known}
 use Rattle.theory.proofs.Seating.{shown_state}
 use Rattle.theory.proofs.Telling.{told, rested}
 use Rattle.theory.proofs.Fed.{entries_of}
-use Rattle.theory.specs.Claims.{LogTheorem, CallTheorem, FormatTheorem}
+use Rattle.theory.specs.Claims.{CallTheorem, FormatTheorem}
 
 module _ {K : Type 0} (same : K → K → Bool) (hash : K → ℕ) (laws : KeyLaws same hash) {f : Figures} {h : History K} {s : State K} (w : Known same hash f h s) where
   abbrev grounded : Ground same hash f (entries_of w.calls) s w.image.seats

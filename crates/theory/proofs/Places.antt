@@ -3,7 +3,7 @@ use Rattle.std.proofs.Common.{◌≡◌, ℕ, suc, ◌+◌, ◌≤◌, min, Bool
 use mathlib.Core.List.{Memᴰ}
 use Rattle.rules.specs.Edits.{links_of}
 use Rattle.rules.specs.InUse.{CellInUse, MainInUse, PairInUse}
-use Rattle.rules.specs.Memory.{Memory, State, main_limit, pair_limit}
+use Rattle.rules.specs.Memory.{Memory, State, main_limit}
 use Rattle.rules.specs.Perform.{Picks, Picked, pairs_for, enough}
 use Rattle.rules.specs.Reached.{HowMany, ReachedCell, ReachedPair, ReachedTomb, cell_count, pair_count, tomb_count}
 use Rattle.rules.specs.declared.Edit.{Edit}
@@ -19,7 +19,7 @@ module _ {K : Type 0} (same : K → K → Bool) (hash : K → ℕ) where
   pub record Room (s : State K) (edit : Edit) : Type 0 where
     pub cells : Leaves (CellInUse same hash s) (length s.memory.words) (links_of edit)
     pub mains : Leaves (MainInUse same hash s) (min main_limit (length s.memory.mains)) (suc (links_of edit))
-    pub pairs : Leaves (PairInUse same hash s) (min pair_limit (length s.memory.pairs)) (pairs_for edit)
+    pub pairs : Leaves (PairInUse same hash s) (length s.memory.pairs) (pairs_for edit)
 
   -- Where there is room, the places taken suffice, whichever they are.
   abbrev pub RoomSuffices : Type 0

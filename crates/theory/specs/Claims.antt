@@ -1,4 +1,4 @@
--- What is claimed of every history on a formatted table, of a key kind that keeps its laws.
+-- The log theorem call by call, and where a history begins, of a key kind that keeps its laws.
 use Rattle.std.specs.Prelude.{◌≡◌, ℕ, Bool, [], None}
 use Rattle.keys.specs.Laws.{KeyLaws}
 use Rattle.rules.specs.Calls.{format_refusal, formatted}
@@ -10,11 +10,7 @@ use Rattle.rules.specs.declared.Figures.{Figures}
 use Rattle.rules.specs.declared.Reply.{Reply}
 
 module _ {K : Type 0} (same : K → K → Bool) (hash : K → ℕ) where
-  -- The log theorem: after every history, all of it stands.
-  abbrev pub LogTheorem : Type 0
-  LogTheorem = KeyLaws same hash → (f : Figures) (h : History K) (s : State K) → Runs same hash f h s → Stands same hash h s
-
-  -- The same call by call: what a call does, refused or not, is lawful.
+  -- What a call does, refused or not, is lawful.
   abbrev pub CallTheorem : Type 0
   CallTheorem = KeyLaws same hash → (s : State K) (c : Call K) (r : Reply) (z : State K) → Does same hash s c r z → Lawful same hash s c r z
 

@@ -2,7 +2,8 @@
 // about the definitions of the rules.
 #![tactic(auto)]
 
-ghost use Rattle.theory.specs.Claims.{CallTheorem, FormatTheorem, LogTheorem};
+ghost use Rattle.rules.specs.Theorem.{LogTheorem};
+ghost use Rattle.theory.specs.Claims.{CallTheorem, FormatTheorem};
 ghost use Rattle.theory.specs.Records.{SteadyTheorem};
 
 use keys::Key;

@@ -33,8 +33,8 @@ use Rattle.theory.proofs.Seating.{shown_state, shown_as, last_of, above, above_o
 use Rattle.theory.proofs.ShownMemory.{shows_memory, read_at}
 use Rattle.theory.proofs.Taking.{taken_alike}
 use Rattle.theory.proofs.Using.{leads_reached}
-use Rattle.theory.proofs.Leading.{Leads}
-use Rattle.theory.proofs.Showing.{shown_mem}
+use Rattle.theory.specs.Reaching.{Leads}
+use Rattle.theory.specs.Shown.{shown_mem}
 
 module _ {K : Type 0} (same : K → K → Bool) (hash : K → ℕ) where
   -- What is reached is led to.

@@ -19,7 +19,7 @@ use Rattle.rules.specs.declared.Seat.{Seat}
 use Rattle.rules.proofs.Counting.{in_gathered, nth_inside}
 use Rattle.rules.proofs.Naming.{some_is}
 use Rattle.theory.proofs.Writing.{Poised}
-use Rattle.theory.proofs.Places.{Leaves}
+use Rattle.theory.specs.Places.{Leaves}
 use Rattle.theory.specs.Records.{Kept, Steady}
 
 -- THE LISTS OF THE SEATS TOGETHER

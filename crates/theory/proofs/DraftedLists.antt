@@ -26,7 +26,7 @@ use Rattle.theory.proofs.Gathering.{Gathers, gathered, gathers_set, gathers_out,
 use Rattle.theory.proofs.ListEdits.{at_low, set_in, set_new, set_kept, out_in, out_kept, set_no_twice, out_no_twice, out_other}
 use Rattle.theory.proofs.Shown.{shows_edits}
 use Rattle.theory.proofs.ShownMemory.{shows_memory}
-use Rattle.theory.proofs.Showing.{shown_mem, shown_main, shown_pair}
+use Rattle.theory.specs.Shown.{shown_mem, shown_main, shown_pair}
 
 -- A member of one list is one of an equal list.
 carry : {A : Type 0} {x : A} {xs ys : List A} → xs ≡ ys → In x xs → In x ys

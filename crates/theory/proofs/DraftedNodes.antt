@@ -22,7 +22,7 @@ use Rattle.rules.specs.Memory.{Memory}
 use Rattle.rules.specs.declared.Pair.{Pair}
 use Rattle.theory.proofs.Shown.{shows_edits}
 use Rattle.theory.proofs.ShownMemory.{shows_memory}
-use Rattle.theory.proofs.Showing.{slot, slots, shown_mem, shown_main, OnlyAt, Beside}
+use Rattle.theory.specs.Shown.{slot, slots, shown_mem, shown_main, OnlyAt, Beside}
 
 -- Branches told apart.
 pair_cell : {p c : ℕ} → ◌≡◌ {A = Option Branch} (Some (pair p)) (Some (cell c)) → ⊥

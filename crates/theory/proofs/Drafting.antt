@@ -25,7 +25,7 @@ use Rattle.theory.proofs.Seating.{swapping, made_pair}
 use Rattle.theory.proofs.Sights.{Drafts}
 use Rattle.theory.proofs.Splitting.{fork_links}
 use Rattle.theory.proofs.Writing.{NamesPair, Fine}
-use Rattle.theory.proofs.Showing.{shown_mem, shown_main}
+use Rattle.theory.specs.Shown.{shown_mem, shown_main}
 
 module _ {K : Type 0} (same : K → K → Bool) (hash : K → ℕ) (laws : KeyLaws same hash) where
   -- The memory z has the pairs that the main y names as the memory m has them, and the put's own pair at the place p.

@@ -21,7 +21,7 @@ use Rattle.theory.proofs.Gathering.{gathered, shown_gathers, place_none}
 use Rattle.theory.proofs.Shown.{shows_edits}
 use Rattle.theory.proofs.ShownMemory.{shows_memory}
 use Rattle.theory.proofs.Sights.{Lacks, Has}
-use Rattle.theory.proofs.Showing.{slot, slots, shown_main, shown_mem, shown_pair}
+use Rattle.theory.specs.Shown.{slot, slots, shown_main, shown_mem, shown_pair}
 
 none_some : {A B : Type 0} {a : A} → ◌≡◌ {A = Option A} None (Some a) → B
 none_some e = let z : ◌≡◌ {A = ℕ} 0 1 = cc in absurd (omega arith)

@@ -33,7 +33,7 @@ use Rattle.theory.proofs.Sights.{Drafts, Holds, Unfit, looked_at, index_of}
 use Rattle.theory.proofs.Splitting.{fork_links}
 use Rattle.theory.proofs.Using.{Readable, readable}
 use Rattle.theory.proofs.Writing.{Fine}
-use Rattle.theory.proofs.Places.{Room}
+use Rattle.theory.specs.Places.{Room}
 use Rattle.theory.specs.Records.{Kept, is_up}
 
 -- A place inside of a list has something.

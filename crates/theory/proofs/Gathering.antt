@@ -15,7 +15,7 @@ use Rattle.rules.specs.Turns.{place_of, later as further}
 use Rattle.rules.specs.declared.Pair.{Pair}
 use Rattle.theory.proofs.ListEdits.{at_in}
 use Rattle.theory.proofs.ShownMemory.{shows_memory}
-use Rattle.theory.proofs.Showing.{shown_pair, shown_mem}
+use Rattle.theory.specs.Shown.{shown_pair, shown_mem}
 
 -- Some places hold these pairs, in order.
 pub data Gathers {K : Type 0} (pairs : List (K × ℕ)) : List ℕ → List (K × ℕ) → Type 0 where

@@ -12,7 +12,7 @@ use Rattle.rules.specs.declared.Figures.{Figures}
 use Rattle.theory.proofs.Seating.{shown_state, Shows}
 use Rattle.theory.proofs.Writing.{Written, Poised}
 use Rattle.theory.specs.Records.{Steady}
-use Rattle.theory.proofs.Showing.{shown_mem}
+use Rattle.theory.specs.Shown.{shown_mem}
 
 module _ {K : Type 0} (same : K → K → Bool) (hash : K → ℕ) where
   -- The table keeps its figures and records, what it has written is fine, and the machine that shows it keeps its invariant.

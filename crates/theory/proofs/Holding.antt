@@ -20,8 +20,8 @@ use Rattle.theory.proofs.Sights.{Holds}
 use Rattle.theory.proofs.Steady.{in_limits_seats}
 use Rattle.theory.proofs.Using.{Readable, readable, pair_used}
 use Rattle.theory.proofs.Writing.{NamesPair, Fine}
-use Rattle.theory.proofs.Leading.{Leads}
-use Rattle.theory.proofs.Showing.{shown_mem, shown_main}
+use Rattle.theory.specs.Reaching.{Leads}
+use Rattle.theory.specs.Shown.{shown_mem, shown_main}
 
 module _ {K : Type 0} (same : K → K → Bool) (hash : K → ℕ) (laws : KeyLaws same hash) {f : Figures} {es : List (Entry K)} {s : State K} {xs : List (Place K)} (g : Ground same hash f es s xs)
     (t : ℕ) (k : K) (o : is_idle (seat_of s t).phase ≡ false) (keyed : slice_get s.memory.keys t ≡ Some k) where

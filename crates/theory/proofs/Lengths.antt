@@ -8,7 +8,7 @@ use Rattle.rules.specs.Memory.{Memory}
 use Rattle.rules.specs.Perform.{Unused, pairs_for}
 use Rattle.rules.specs.Reached.{Once, HowMany}
 use Rattle.rules.specs.Sanity.{Counted}
-use Rattle.theory.proofs.Places.{Leaves, RoomSuffices, Tells}
+use Rattle.theory.specs.Places.{Leaves, RoomSuffices, Tells}
 
 -- A list without one of its members: one shorter, and no other is lost.
 record Without (y : ℕ) (xs : List ℕ) : Type 0 where

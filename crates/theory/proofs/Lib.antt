@@ -1,8 +1,4 @@
 pub mod Fed
-pub mod Showing
-pub mod Leading
-pub mod Places
-pub mod Orders
 pub mod Plans
 pub mod Deeds
 pub mod Book

@@ -11,7 +11,7 @@ use Rattle.rules.specs.Memory.{Memory, main_at}
 use Rattle.theory.proofs.Shown.{shows_edits}
 use Rattle.theory.proofs.ShownMemory.{shows_memory}
 use Rattle.theory.proofs.Writing.{Formed, NamesPair}
-use Rattle.theory.proofs.Showing.{slot, shown_main, shown_mem}
+use Rattle.theory.specs.Shown.{slot, shown_main, shown_mem}
 
 -- Where the same is there, the same shows.
 agree : {A B : Type 0} (o u : Option A) (f : A → B) (d a b : B) → o ≡ u

@@ -26,7 +26,7 @@ use Rattle.theory.proofs.Ground.{Ground}
 use Rattle.theory.proofs.Seating.{shown_state, shown_as, swapping, made_pair, last_of, above_of, news}
 use Rattle.theory.proofs.ShownMemory.{shows_memory, read_at}
 use Rattle.theory.proofs.Fed.{entries_of}
-use Rattle.theory.proofs.Showing.{shown_mem}
+use Rattle.theory.specs.Shown.{shown_mem}
 
 module _ {K : Type 0} (same : K → K → Bool) (k : K) where
   without_length : (ys : List (Pair K)) → length (without same k ys) ≤ length ys

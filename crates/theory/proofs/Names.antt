@@ -14,7 +14,7 @@ use Rattle.rules.proofs.Naming.{chunk_in}
 use Rattle.rules.specs.Reached.{is_tomb, branches_of, branches_to, pairs_in, pairs_of}
 use Rattle.theory.proofs.Shown.{shows_edits}
 use Rattle.theory.proofs.Writing.{Formed, NamesPair}
-use Rattle.theory.proofs.Showing.{shown_main}
+use Rattle.theory.specs.Shown.{shown_main}
 
 -- A pair among the branches of a node is among the pairs that it names.
 pair_listed : (p : ℕ) (bs : List Branch) → Memᴰ (pair p) bs → Memᴰ p (pairs_in bs)

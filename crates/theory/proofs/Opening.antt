@@ -24,7 +24,7 @@ use Rattle.theory.proofs.Seating.{Shows}
 use Rattle.theory.proofs.Turning.{Moved, stays, reshown, asked_plain}
 use Rattle.theory.proofs.Fed.{asked}
 use Rattle.theory.specs.Records.{Steady}
-use Rattle.theory.proofs.Showing.{shown_mem}
+use Rattle.theory.specs.Shown.{shown_mem}
 
 module _ {K : Type 0} (same : K → K → Bool) (hash : K → ℕ) where
   -- The keys count for nothing.

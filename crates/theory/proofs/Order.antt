@@ -25,7 +25,7 @@ use Rattle.rules.specs.declared.Withdrawn.TheVariants.{Undone, Settled}
 use Rattle.theory.proofs.Book.{Book, Recorded, Ending, opened_by, ended_by, seat_in}
 use Rattle.theory.proofs.Deeds.{Deed, turn_deed}
 use Rattle.theory.proofs.Entries.{Next, not_fixed, heard, act_entered, withdrawal_entered, opening_entered}
-use Rattle.theory.proofs.Orders.{OrderTheorem}
+use Rattle.theory.specs.Orders.{OrderTheorem}
 
 -- THE BOOK OF A HISTORY
 

@@ -37,7 +37,7 @@ use Rattle.theory.proofs.Seating.{shown_as, made_pair}
 use Rattle.theory.proofs.Shown.{shows_edits}
 use Rattle.theory.proofs.ShownMemory.{shows_memory}
 use Rattle.theory.proofs.Using.{reached_leads, pair_reached}
-use Rattle.theory.proofs.Showing.{slot, shown_main, shown_mem}
+use Rattle.theory.specs.Shown.{slot, shown_main, shown_mem}
 
 -- A branch that is listed as a pair is one.
 listed_pair : (p : ℕ) (bs : List Branch) → Memᴰ p (pairs_in bs) → Memᴰ (pair p) bs

@@ -25,7 +25,7 @@ use Rattle.theory.proofs.Sights.{Drafts}
 use Rattle.theory.proofs.Splitting.{fork_links, splitted}
 use Rattle.theory.proofs.Writing.{NamesPair, Fine}
 use Rattle.theory.proofs.Fed.{asked}
-use Rattle.theory.proofs.Showing.{shown_mem, shown_main}
+use Rattle.theory.specs.Shown.{shown_mem, shown_main}
 
 no_put : (v : ℕ) → Cut ≡ Put v → ⊥
 no_put v e = let z : ◌≡◌ {A = ℕ} 0 1 = cc in omega arith

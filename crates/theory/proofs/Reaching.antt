@@ -20,8 +20,8 @@ use Rattle.rules.specs.Sanity.{walk, cell_by, cell_below}
 use Rattle.rules.specs.Sound.{sound_in}
 use Rattle.theory.proofs.Shown.{shows_edits}
 use Rattle.theory.proofs.ShownMemory.{shows_memory}
-use Rattle.theory.proofs.Leading.{Leads, Intact, ShowsReach}
-use Rattle.theory.proofs.Showing.{slot, slots, shown_main, shown_mem}
+use Rattle.theory.specs.Reaching.{Leads, Intact, ShowsReach}
+use Rattle.theory.specs.Shown.{slot, slots, shown_main, shown_mem}
 
 -- A pair is no cell.
 no_cell_lem : {K : Type 0} (c : ℕ) (o : Maybe (K × ℕ)) → lone o ≡ on c → ⊥

@@ -32,7 +32,7 @@ use Rattle.theory.proofs.Fitting.{draft_links, fits, pair_there, Allowed, allowe
 use Rattle.theory.proofs.Ground.{Ground, Within}
 use Rattle.theory.proofs.Sights.{Holds, Reads, Leaves, Sees, sees, looked_at}
 use Rattle.theory.proofs.Using.{key_of}
-use Rattle.theory.proofs.Places.{Room}
+use Rattle.theory.specs.Places.{Room}
 use Rattle.theory.specs.Records.{Steady}
 
 -- The figures' own limits, and the memory that they need.

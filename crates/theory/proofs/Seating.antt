@@ -16,7 +16,7 @@ use Rattle.rules.specs.declared.Phase.{Phase}
 use Rattle.rules.specs.declared.Phase.TheVariants.{Idle, Read, Swap, Climb, Parent, Clean}
 use Rattle.rules.specs.declared.Seat.{Seat}
 use Rattle.theory.proofs.Fed.{asked}
-use Rattle.theory.proofs.Showing.{shown_mem}
+use Rattle.theory.specs.Shown.{shown_mem}
 
 -- The cells of a path above the one at an index, the nearest first.
 abbrev pub above : List ℕ → ℕ → List ℕ

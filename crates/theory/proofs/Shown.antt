@@ -17,7 +17,7 @@ use Rattle.mains.proofs.Listings.{listed_of, listed_appended, listed_relisted, l
 use Rattle.mains.proofs.Made.{empty_formed, empty_stands, one_formed, one_stands, two_formed, two_stands}
 use Rattle.mains.proofs.Singles.{lone_is}
 use Rattle.mains.proofs.Standing.{at_past, has_some, some_not_none, edited_here, edited_other, stands_from}
-use Rattle.theory.proofs.Showing.{slot, row, slots, OnlyAt, Beside, ShowsEdits}
+use Rattle.theory.specs.Shown.{slot, row, slots, OnlyAt, Beside, ShowsEdits}
 
 length_row : (f : ℕ → Slot) (k : ℕ) → length (row f k) ≡ k
 unfolding row

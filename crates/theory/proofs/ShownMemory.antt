@@ -13,7 +13,7 @@ use Rattle.mains.specs.declared.Main.TheVariants.{Node as Noded, Tomb as Tombed,
 use Rattle.mains.specs.declared.Node.{Node}
 use Rattle.mains.specs.declared.PairList.{PairList}
 use Rattle.rules.specs.Memory.{Memory, main_limit, main_at}
-use Rattle.theory.proofs.Showing.{slots, shown_main, shown_pair, shown_mem, ShowsMemory}
+use Rattle.theory.specs.Shown.{slots, shown_main, shown_pair, shown_mem, ShowsMemory}
 
 none_some : {A : Type 0} {x : A} → None ≡ Some x → ⊥
 none_some e = let z : ◌≡◌ {A = ℕ} 0 1 = cc in omega arith

@@ -25,7 +25,7 @@ use Rattle.rules.specs.Sound.{is_lone_pair, sound_node, sound_list, among, alike
 use Rattle.rules.specs.declared.Pair.{Pair}
 use Rattle.theory.proofs.Shown.{shows_edits}
 use Rattle.theory.proofs.ShownMemory.{shows_memory}
-use Rattle.theory.proofs.Showing.{slot, slots, shown_pair, shown_mem}
+use Rattle.theory.specs.Shown.{slot, slots, shown_pair, shown_mem}
 
 -- What is below the length of a list is there.
 pub nth_there : {A : Type 0} (xs : List A) (i : ℕ) → i < length xs → (x : A) × (slice_get xs i ≡ Some x)

@@ -23,7 +23,7 @@ use Rattle.rules.specs.declared.Pair.{Pair}
 use Rattle.theory.proofs.Seating.{news}
 use Rattle.theory.proofs.Shown.{shows_edits}
 use Rattle.theory.proofs.ShownMemory.{shows_memory}
-use Rattle.theory.proofs.Showing.{slot, slots, shown_mem, shown_main}
+use Rattle.theory.specs.Shown.{slot, slots, shown_mem, shown_main}
 
 -- What a new cell holds before the end of its chain, and at the end below and at index 7.
 module _ (f : Fork) (p i below : ℕ) where

@@ -22,7 +22,7 @@ use Rattle.theory.proofs.Lengths.{tells}
 use Rattle.theory.proofs.Order.{all_idle}
 use Rattle.theory.proofs.Placing.{main_shown}
 use Rattle.theory.proofs.Shown.{shows_edits}
-use Rattle.theory.proofs.Showing.{slots, shown_main, shown_mem}
+use Rattle.theory.specs.Shown.{slots, shown_main, shown_mem}
 use Rattle.theory.proofs.Imaging.{Image}
 
 module _ {K : Type 0} (same : K → K → Bool) (hash : K → ℕ) where

@@ -40,7 +40,7 @@ use Rattle.theory.proofs.Steady.{in_limits_seats}
 use Rattle.theory.proofs.Turning.{Moved, stays, going_on, fixed_as, fixing, asked_plain, plain_swapping, gives_hoped, hopes_fit, path_more, dropped_on, dropped_out, returns_asked, again_asked}
 use Rattle.theory.proofs.Fed.{asked, result_of, entries_of, fits}
 use Rattle.theory.specs.Records.{Kept, is_up}
-use Rattle.theory.proofs.Showing.{shown_mem, shown_main}
+use Rattle.theory.specs.Shown.{shown_mem, shown_main}
 
 -- Kinds of mains and branches are apart.
 same_node : {a b : Node} → node a ≡ node b → a ≡ b

@@ -42,7 +42,7 @@ use Rattle.theory.proofs.Sights.{Drafts, Holds}
 use Rattle.theory.proofs.Steady.{cells_size}
 use Rattle.theory.proofs.Using.{cell_used, main_used, pair_used}
 use Rattle.theory.specs.Records.{is_up}
-use Rattle.theory.proofs.Showing.{shown_main, shown_mem}
+use Rattle.theory.specs.Shown.{shown_main, shown_mem}
 
 -- A claim is carried along three equations.
 carried : {A B C : Type 0} (P : A → B → C → Type 0) {a d : A} {b e : B} {c f : C} → a ≡ d → b ≡ e → c ≡ f → P a b c → P d e f

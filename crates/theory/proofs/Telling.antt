@@ -39,7 +39,7 @@ use Rattle.theory.proofs.Seating.{shown_state}
 use Rattle.theory.proofs.ShownMemory.{shows_memory}
 use Rattle.theory.proofs.Using.{intact, reached_leads}
 use Rattle.theory.proofs.Fed.{asked, entries_of}
-use Rattle.theory.proofs.Showing.{shown_main, shown_mem}
+use Rattle.theory.specs.Shown.{shown_main, shown_mem}
 
 -- A tomb is shown as one.
 dead : (x : Main) → is_tomb x ≡ true → IsTomb (shown_main x)

@@ -32,9 +32,9 @@ use Rattle.theory.proofs.ShownMemory.{shows_memory, read_at}
 use Rattle.theory.proofs.Sights.{Holds}
 use Rattle.theory.proofs.Soundness.{nth_there, sound_node_lem, sound_list_lem, sound_tomb}
 use Rattle.theory.proofs.Writing.{Fine, NamesCell}
-use Rattle.theory.proofs.Leading.{Leads, Intact}
+use Rattle.theory.specs.Reaching.{Leads, Intact}
 use Rattle.theory.specs.Records.{Kept}
-use Rattle.theory.proofs.Showing.{shown_mem, shown_main}
+use Rattle.theory.specs.Shown.{shown_mem, shown_main}
 
 module _ {K : Type 0} (same : K → K → Bool) (hash : K → ℕ) where
   -- A cell can be read at an index: it holds a sound main, and unless that is a tomb, the key's hash leads to the cell.

@@ -1,2 +1,6 @@
 pub mod Records
+pub mod Orders
+pub mod Places
+pub mod Shown
+pub mod Reaching
 pub mod Claims

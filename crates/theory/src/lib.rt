@@ -2,9 +2,14 @@
 // about the definitions of the rules.
 #![tactic(auto)]
 
+ghost use Rattle.rules.specs.Memory.{Memory};
 ghost use Rattle.rules.specs.Theorem.{LogTheorem};
 ghost use Rattle.theory.specs.Claims.{CallTheorem, FormatTheorem};
+ghost use Rattle.theory.specs.Orders.{OrderTheorem};
+ghost use Rattle.theory.specs.Places.{RoomSuffices, Tells};
+ghost use Rattle.theory.specs.Reaching.{ShowsReach};
 ghost use Rattle.theory.specs.Records.{SteadyTheorem};
+ghost use Rattle.theory.specs.Shown.{ShowsEdits, ShowsMemory};
 
 use keys::Key;
 
@@ -17,9 +22,51 @@ pub fn log_stands<K: Key>() -> u8
     0
 }
 
+// The stamped calls of a history have an order: the theorem, for every key kind.
+pub fn stamps_order<K: Key>() -> u8
+    ensures { OrderTheorem K.Key.same K.Key.hash }
+{
+    0
+}
+
+// While the places in use leave enough, whatever a turn takes suffices.
+pub fn room_suffices<K: Key>() -> u8
+    ensures { RoomSuffices K.Key.same K.Key.hash }
+{
+    0
+}
+
+// A count tells the number of what is reached, however that is listed.
+pub fn counts_tell<K: Key>() -> u8
+    ensures { (m : Memory K) → Tells K.Key.same K.Key.hash m }
+{
+    0
+}
+
 // After every history the table keeps its figures, its memory their need, and each seat the rules of its record.
 pub fn records_steady<K: Key>() -> u8
     ensures { SteadyTheorem K.Key.same K.Key.hash }
+{
+    0
+}
+
+// The edits of nodes and lists show as those of the machine's mains.
+pub fn edits_show() -> u8
+    ensures { ShowsEdits }
+{
+    0
+}
+
+// The memory shows as the machine's, place by place.
+pub fn memory_shows<K: Key>() -> u8
+    ensures { ShowsMemory K }
+{
+    0
+}
+
+// A hash leads to the same cells by the rules and in the memory shown, where that is intact.
+pub fn reach_shows<K: Key>() -> u8
+    ensures { (m : Memory K) → ShowsReach K.Key.same K.Key.hash m }
 {
     0
 }

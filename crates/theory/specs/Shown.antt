@@ -1,6 +1,6 @@
 -- The packed mains and the memory of the rules, shown as the mains and the memory of the loose machine, and what the showing keeps.
-use Rattle.std.proofs.Common.{◌≡◌, ℕ, zero, suc, ◌<◌, ◌≤◌, ◌≢◌, List, [], ◌∷◌, ◌++◌, map, length, get_or, take, set, replicate, Some, None, Option}
-use mathlib.Core.Option.{none, some}
+use Rattle.std.specs.Prelude.{◌≡◌, ℕ, zero, suc, ◌<◌, ◌≤◌, ◌≢◌, List, [], ◌∷◌, ◌++◌, map, length, get_or, take, set, replicate, Some, None, Option, slice_index_or, slice_set}
+use Rattle.std.proofs.Math.Option.{none, some}
 use Rattle.std.specs.List.{slice_get, remove as without}
 use Rattle.machine.specs.Machine.{Branch as Slot, nothing, pair, cell, Taken, Main as Shape, node, tomb, many, Mem, word, main}
 use Rattle.machine.specs.Tree.{nth as placed}
@@ -51,7 +51,7 @@ pub record OnlyAt (n : Node) (q : ℕ) (x : Branch) : Type 0 where
   pub here : branch_at n q ≡ Some x
   pub alone : (p : ℕ) → p ≢ q → branch_at n p ≡ None
   pub shows : get_or (slots n) q nothing ≡ slot (Some x)
-  pub empty : (p : ℕ) → p ≢ q → get_or (slots n) p nothing ≡ nothing
+  pub empty : (p : ℕ) → p ≢ q → slice_index_or (slots n) p nothing ≡ nothing
 
 -- A chunk other than q has a branch.
 pub record Beside (n : Node) (q : ℕ) : Type 0 where
@@ -60,35 +60,35 @@ pub record Beside (n : Node) (q : ℕ) : Type 0 where
   pub low : chunk < 32
   pub other : chunk ≢ q
   pub there : branch_at n chunk ≡ Some branch
-  pub taken : Taken (get_or (slots n) chunk nothing)
+  pub taken : Taken (slice_index_or (slots n) chunk nothing)
 
 -- The edits of a node show as a slot that is set, and those of a list as the same edit of what it lists.
 pub record ShowsEdits : Type 0 where
   -- A node shows 32 slots, each what stands at its chunk, and nothing past them.
   pub length_slots : (n : Node) → length (slots n) ≡ 32
-  pub slot_at : (n : Node) (q : ℕ) → q < 32 → get_or (slots n) q nothing ≡ slot (branch_at n q)
-  pub slot_past : (n : Node) (q : ℕ) → 32 ≤ q → get_or (slots n) q nothing ≡ nothing
-  pub slot_any : (n : Node) → WellFormed n → (q : ℕ) → get_or (slots n) q nothing ≡ slot (branch_at n q)
+  pub slot_at : (n : Node) (q : ℕ) → q < 32 → slice_index_or (slots n) q nothing ≡ slot (branch_at n q)
+  pub slot_past : (n : Node) (q : ℕ) → 32 ≤ q → slice_index_or (slots n) q nothing ≡ nothing
+  pub slot_any : (n : Node) → WellFormed n → (q : ℕ) → slice_index_or (slots n) q nothing ≡ slot (branch_at n q)
   -- What shows at a chunk stands there.
-  pub pair_from : (n : Node) (q p : ℕ) → get_or (slots n) q nothing ≡ pair p → branch_at n q ≡ Some (Paired p)
-  pub cell_from : (n : Node) (q c : ℕ) → get_or (slots n) q nothing ≡ cell c → branch_at n q ≡ Some (Celled c)
-  pub nothing_from : (n : Node) (q : ℕ) → WellFormed n → get_or (slots n) q nothing ≡ nothing → branch_at n q ≡ None
+  pub pair_from : (n : Node) (q p : ℕ) → slice_index_or (slots n) q nothing ≡ pair p → branch_at n q ≡ Some (Paired p)
+  pub cell_from : (n : Node) (q c : ℕ) → slice_index_or (slots n) q nothing ≡ cell c → branch_at n q ≡ Some (Celled c)
+  pub nothing_from : (n : Node) (q : ℕ) → WellFormed n → slice_index_or (slots n) q nothing ≡ nothing → branch_at n q ≡ None
   -- An edit of a node sets one slot.
-  pub inserts : (n : Node) (q : ℕ) (x : Branch) → WellFormed n → q < 32 → branch_at n q ≡ None → slots (inserted n q x) ≡ set (slots n) q (slot (Some x))
-  pub replaces : (n : Node) (q : ℕ) (x y : Branch) → WellFormed n → branch_at n q ≡ Some y → slots (replaced n q x) ≡ set (slots n) q (slot (Some x))
-  pub removes : (n : Node) (q : ℕ) → WellFormed n → slots (removed n q) ≡ set (slots n) q nothing
+  pub inserts : (n : Node) (q : ℕ) (x : Branch) → WellFormed n → q < 32 → branch_at n q ≡ None → slots (inserted n q x) ≡ slice_set (slots n) q (slot (Some x))
+  pub replaces : (n : Node) (q : ℕ) (x y : Branch) → WellFormed n → branch_at n q ≡ Some y → slots (replaced n q x) ≡ slice_set (slots n) q (slot (Some x))
+  pub removes : (n : Node) (q : ℕ) → WellFormed n → slots (removed n q) ≡ slice_set (slots n) q nothing
   -- A node that is made whole has its branches and nothing else.
   pub empty : slots empty_node ≡ replicate 32 nothing
-  pub empty_at : (q : ℕ) → get_or (slots empty_node) q nothing ≡ nothing
-  pub one : (q : ℕ) (x : Branch) → q < 32 → slots (of_one q x) ≡ set (replicate 32 nothing) q (slot (Some x))
-  pub one_here : (q : ℕ) (x : Branch) → q < 32 → get_or (slots (of_one q x)) q nothing ≡ slot (Some x)
-  pub one_else : (q : ℕ) (x : Branch) (p : ℕ) → q < 32 → p ≢ q → get_or (slots (of_one q x)) p nothing ≡ nothing
+  pub empty_at : (q : ℕ) → slice_index_or (slots empty_node) q nothing ≡ nothing
+  pub one : (q : ℕ) (x : Branch) → q < 32 → slots (of_one q x) ≡ slice_set (replicate 32 nothing) q (slot (Some x))
+  pub one_here : (q : ℕ) (x : Branch) → q < 32 → slice_index_or (slots (of_one q x)) q nothing ≡ slot (Some x)
+  pub one_else : (q : ℕ) (x : Branch) (p : ℕ) → q < 32 → p ≢ q → slice_index_or (slots (of_one q x)) p nothing ≡ nothing
   pub two : (q : ℕ) (x : Branch) (r : ℕ) (y : Branch) → q < 32 → r < 32 → q ≢ r
-      → slots (of_two q x r y) ≡ set (set (replicate 32 nothing) q (slot (Some x))) r (slot (Some y))
-  pub two_first : (q : ℕ) (x : Branch) (r : ℕ) (y : Branch) → q < 32 → r < 32 → q ≢ r → get_or (slots (of_two q x r y)) q nothing ≡ slot (Some x)
-  pub two_second : (q : ℕ) (x : Branch) (r : ℕ) (y : Branch) → q < 32 → r < 32 → q ≢ r → get_or (slots (of_two q x r y)) r nothing ≡ slot (Some y)
+      → slots (of_two q x r y) ≡ slice_set (slice_set (replicate 32 nothing) q (slot (Some x))) r (slot (Some y))
+  pub two_first : (q : ℕ) (x : Branch) (r : ℕ) (y : Branch) → q < 32 → r < 32 → q ≢ r → slice_index_or (slots (of_two q x r y)) q nothing ≡ slot (Some x)
+  pub two_second : (q : ℕ) (x : Branch) (r : ℕ) (y : Branch) → q < 32 → r < 32 → q ≢ r → slice_index_or (slots (of_two q x r y)) r nothing ≡ slot (Some y)
   pub two_else : (q : ℕ) (x : Branch) (r : ℕ) (y : Branch) (p : ℕ) → q < 32 → r < 32 → q ≢ r → p ≢ q → p ≢ r
-      → get_or (slots (of_two q x r y)) p nothing ≡ nothing
+      → slice_index_or (slots (of_two q x r y)) p nothing ≡ nothing
   -- A lone branch has no other beside it, and a branch that is not lone has one.
   pub lone_only : (n : Node) (x : Branch) → WellFormed n → lone n ≡ Some x → (q : ℕ) × OnlyAt n q x
   pub lone_none : (n : Node) (q : ℕ) (x : Branch) → WellFormed n → lone n ≡ None → branch_at n q ≡ Some x → Beside n q
@@ -96,7 +96,7 @@ pub record ShowsEdits : Type 0 where
   pub appends : (l : PairList) (p : ℕ) → length l.pairs ≡ 32 → l.count < 32 → listed (appended l p) ≡ listed l ++ (p ∷ [])
   pub appends_length : (l : PairList) (p : ℕ) → length l.pairs ≡ 32 → l.count < 32 → length (listed (appended l p)) ≡ suc (length (listed l))
   pub lists_two : (r p : ℕ) → listed (of_pairs r p) ≡ r ∷ p ∷ []
-  pub relists : (l : PairList) (i p : ℕ) → listed (relisted l i p) ≡ set (listed l) i p
+  pub relists : (l : PairList) (i p : ℕ) → listed (relisted l i p) ≡ slice_set (listed l) i p
   pub relists_length : (l : PairList) (i p : ℕ) → length (listed (relisted l i p)) ≡ length (listed l)
   pub unlists : (l : PairList) (i : ℕ) → listed (unlisted l i) ≡ without (listed l) i
   pub unlists_length : (l : PairList) (i : ℕ) → i < length (listed l) → suc (length (listed (unlisted l i))) ≡ length (listed l)
@@ -123,11 +123,11 @@ pub record ShowsMemory (K : Type 0) : Type 0 where
   pub as_many_pairs : (m : Memory K) → length (shown_mem m).pairs ≡ length m.pairs
   -- What is set at a place is set in what is shown.
   pub word_set : (m : Memory K) (c n : ℕ)
-      → shown_mem (record { words = set m.words c n; mains = m.mains; pairs = m.pairs; keys = m.keys })
-      ≡ record { words = set (shown_mem m).words c n; mains = (shown_mem m).mains; pairs = (shown_mem m).pairs }
+      → shown_mem (record { words = slice_set m.words c n; mains = m.mains; pairs = m.pairs; keys = m.keys })
+      ≡ record { words = slice_set (shown_mem m).words c n; mains = (shown_mem m).mains; pairs = (shown_mem m).pairs }
   pub main_set : (m : Memory K) (n : ℕ) (x : Main)
-      → shown_mem (record { words = m.words; mains = set m.mains n x; pairs = m.pairs; keys = m.keys })
-      ≡ record { words = (shown_mem m).words; mains = set (shown_mem m).mains n (shown_main x); pairs = (shown_mem m).pairs }
+      → shown_mem (record { words = m.words; mains = slice_set m.mains n x; pairs = m.pairs; keys = m.keys })
+      ≡ record { words = (shown_mem m).words; mains = slice_set (shown_mem m).mains n (shown_main x); pairs = (shown_mem m).pairs }
   pub pair_set : (m : Memory K) (p : ℕ) (x : Pair K)
-      → shown_mem (record { words = m.words; mains = m.mains; pairs = set m.pairs p x; keys = m.keys })
-      ≡ record { words = (shown_mem m).words; mains = (shown_mem m).mains; pairs = set (shown_mem m).pairs p (x.key, x.value) }
+      → shown_mem (record { words = m.words; mains = m.mains; pairs = slice_set m.pairs p x; keys = m.keys })
+      ≡ record { words = (shown_mem m).words; mains = (shown_mem m).mains; pairs = slice_set (shown_mem m).pairs p (x.key, x.value) }

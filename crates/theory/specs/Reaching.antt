@@ -1,6 +1,6 @@
 -- What the rules reach and what the machine reaches in the memory that is shown.
-use Rattle.std.proofs.Common.{◌≡◌, ℕ, ◌<◌, Bool, length, Some}
-use mathlib.Core.Option.{some}
+use Rattle.std.specs.Prelude.{◌≡◌, ℕ, ◌<◌, Bool, length, Some}
+use Rattle.std.proofs.Math.Option.{some}
 use Rattle.keys.specs.Routes.{chunk_at}
 use Rattle.machine.specs.Machine.{view}
 use Rattle.machine.specs.Tree.{walk as treeWalk}
@@ -8,7 +8,7 @@ use Rattle.mains.specs.declared.Main.{Main}
 use Rattle.rules.specs.Memory.{Memory}
 use Rattle.rules.specs.Sanity.{walk}
 use Rattle.rules.specs.Sound.{sound_in}
-use Rattle.theory.proofs.Showing.{shown_mem}
+use Rattle.theory.specs.Shown.{shown_mem}
 
 -- In the memory shown, the chunks of a hash lead to a cell at an index.
 abbrev pub Leads : {K : Type 0} → Memory K → ℕ → ℕ → ℕ → Type 0

@@ -1,5 +1,5 @@
 -- How many places there are: while those in use leave enough, a turn finds what it wants; and counts of the same things agree.
-use Rattle.std.proofs.Common.{◌≡◌, ℕ, suc, ◌+◌, ◌≤◌, min, Bool, true, List, length}
+use Rattle.std.specs.Prelude.{◌≡◌, ℕ, suc, ◌+◌, ◌≤◌, min, Bool, true, List, length}
 use mathlib.Core.List.{Memᴰ}
 use Rattle.rules.specs.Edits.{links_of}
 use Rattle.rules.specs.InUse.{CellInUse, MainInUse, PairInUse}

@@ -1,5 +1,5 @@
 -- The stamped calls of a history have an order, whatever their keys and the table's memory.
-use Rattle.std.proofs.Common.{ℕ, Bool, List}
+use Rattle.std.specs.Prelude.{ℕ, Bool, List}
 use Rattle.rules.specs.History.{History, Runs}
 use Rattle.rules.specs.Memory.{State}
 use Rattle.rules.specs.Theorem.{StampedCall, Ordered, Stays}

@@ -1,0 +1,5 @@
+use Rattle.theory.proofs.Reaching.{shows_reach}
+use Rattle.theory.proofs.reach_shows.Goals as goal
+
+pub returns : goal.returns
+returns g c = shows_reach g.K.Key.same g.K.Key.hash

@@ -1,0 +1,5 @@
+use Rattle.theory.proofs.Order.{orders}
+use Rattle.theory.proofs.stamps_order.Goals as goal
+
+pub returns : goal.returns
+returns g c = orders g.K.Key.same g.K.Key.hash

@@ -6,7 +6,8 @@ use mathlib.Core.Option.{Option, some}
 use mathlib.Core.Logic.{◌≢◌}
 use Prim.Native.Nat.{ℕ, zero, suc, ◌+◌, ◌-◌, ◌≤◌}
 use native.Mathlib.Omega.{arith}
-use Rattle.machine.specs.Tree.{stands, on, Tree, Agree, walk, find, seek, lookup, Prefixed}
+use Rattle.machine.specs.Tree.{stands, on, Tree, Agree, walk, Prefixed}
+use Rattle.machine.specs.Pairs.{find_pair, seek_pair, lookup_pair}
 use Rattle.machine.proofs.Walk.{walk_agree, agree?, seek_at, seek_on, lookup_walk, swap_walk_here, swap_lookup_apart, swap_lookup_kept}
 
 -- Along the hash h from the cell c at index a stand in the end the pairs ps.
@@ -18,7 +19,7 @@ pub data Ends {K : Type 0} (chunk : ℕ → ℕ → ℕ) (M : Tree K) (h : ℕ) 
 pub data Local {K : Type 0} (same : K → K → Bool) (hash : K → ℕ) (chunk : ℕ → ℕ → ℕ) (M N : Tree K) (c a : ℕ) (k : K)
     (R : Option (K × ℕ) → Option (K × ℕ) → Type 0) : Type 0 where
   kept : N c (chunk (hash k) a) ≡ M c (chunk (hash k) a) → ((x : Option (K × ℕ)) → R x x) → Local same hash chunk M N c a k R
-  changed : (ps qs : List (K × ℕ)) → Ends chunk M (hash k) ps c a → Ends chunk N (hash k) qs c a → R (find same k ps) (find same k qs)
+  changed : (ps qs : List (K × ℕ)) → Ends chunk M (hash k) ps c a → Ends chunk N (hash k) qs c a → R (find_pair same k ps) (find_pair same k qs)
       → Local same hash chunk M N c a k R
 
 -- The search ends at index 7 at the latest.
@@ -29,7 +30,7 @@ ends_below (more d e x) = let l = ends_below x in omega arith
 module _ {K : Type 0} (same : K → K → Bool) (hash : K → ℕ) (chunk : ℕ → ℕ → ℕ) where
   -- A search says what the pairs say where it ends.
   seek_ends : (M : Tree K) (k : K) (ps : List (K × ℕ)) (c a n : ℕ) → Ends chunk M (hash k) ps c a → n + a ≡ 7
-      → seek same hash chunk M k n a c ≡ find same k ps
+      → seek_pair same hash chunk M k n a c ≡ find_pair same k ps
   seek_ends M k ps c a n (stop l e) s = seek_at same hash chunk M k n a c ps e
   seek_ends M k ps c a zero (more d e x) s = let l = ends_below x in absurd (omega arith)
   seek_ends M k ps c a (suc n) (more d e x) s =
@@ -37,7 +38,7 @@ module _ {K : Type 0} (same : K → K → Bool) (hash : K → ℕ) (chunk : ℕ 
 
   -- So does a lookup.
   pub lookup_ends : (M : Tree K) (k : K) (ps : List (K × ℕ)) (c a : ℕ) → walk chunk M (hash k) a ≡ some c → Ends chunk M (hash k) ps c a
-      → lookup same hash chunk M k ≡ find same k ps
+      → lookup_pair same hash chunk M k ≡ find_pair same k ps
   lookup_ends M k ps c a w x =
       let l = ends_below x in
       lookup_walk same hash chunk M k a c l w ∙ seek_ends M k ps c a (7 - a) x (omega arith)
@@ -48,11 +49,11 @@ module _ {K : Type 0} (same : K → K → Bool) (hash : K → ℕ) (chunk : ℕ 
     pub swap_effect : (R : K → Option (K × ℕ) → Option (K × ℕ) → Type 0)
         → ((k : K) → ¬ Agree chunk (hash k) h₀ a → (x : Option (K × ℕ)) → R k x x)
         → ((k : K) → Agree chunk (hash k) h₀ a → Local same hash chunk M N c a k (R k))
-        → (k : K) → R k (lookup same hash chunk M k) (lookup same hash chunk N k)
+        → (k : K) → R k (lookup_pair same hash chunk M k) (lookup_pair same hash chunk N k)
     swap_effect R far near k = go (agree? chunk (hash k) h₀ a)
       where
-        by : Agree chunk (hash k) h₀ a → Local same hash chunk M N c a k (R k) → R k (lookup same hash chunk M k) (lookup same hash chunk N k)
-        by ag (kept e r) = rw (swap_lookup_kept same hash chunk M N one h₀ a c reached but k e) (r (lookup same hash chunk M k))
+        by : Agree chunk (hash k) h₀ a → Local same hash chunk M N c a k (R k) → R k (lookup_pair same hash chunk M k) (lookup_pair same hash chunk N k)
+        by ag (kept e r) = rw (swap_lookup_kept same hash chunk M N one h₀ a c reached but k e) (r (lookup_pair same hash chunk M k))
         by ag (changed ps qs x y r) =
             rw (
               lookup_ends M k ps c a (walk_agree chunk M (hash k) h₀ a ag ∙ reached) x,
@@ -60,9 +61,9 @@ module _ {K : Type 0} (same : K → K → Bool) (hash : K → ℕ) (chunk : ℕ 
             )
             r
 
-        go : Dec (Agree chunk (hash k) h₀ a) → R k (lookup same hash chunk M k) (lookup same hash chunk N k)
+        go : Dec (Agree chunk (hash k) h₀ a) → R k (lookup_pair same hash chunk M k) (lookup_pair same hash chunk N k)
         go (yes ag) = by ag (near k ag)
-        go (no na) = rw (swap_lookup_apart same hash chunk M N one h₀ a c reached but k na) (far k na (lookup same hash chunk M k))
+        go (no na) = rw (swap_lookup_apart same hash chunk M N one h₀ a c reached but k na) (far k na (lookup_pair same hash chunk M k))
 
 -- Where every walk was a walk before, each cell still stands for one prefix.
 pub prefixed_shrink : {K : Type 0} (chunk : ℕ → ℕ → ℕ) (M N : Tree K)

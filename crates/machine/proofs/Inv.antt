@@ -9,7 +9,7 @@ use lib.Dec.{T}
 use lib.ListN.{length, get_or}
 use Rattle.machine.specs.Tree.{Spot, stands, on, walk, Prefixed, nth, Placed}
 use Rattle.machine.specs.Machine.{tomb, IsTomb, IsFlat, HasPair, HasCell, Mem, face, word, main, view, Op, get, put, renew, cut, cutting, climb, key, Seat, idle, read, swap, parent, clean, State, Expects, MakesMain, MakesPair, MakesCell, Entry}
-use Rattle.machine.specs.Claim.{Stands}
+use Rattle.machine.specs.Pairs.{StandsPair}
 use Rattle.machine.proofs.Ready.{Ready}
 
 -- The new cells without their mains.
@@ -48,7 +48,7 @@ module _ {K : Type 0} (same : K → K → Bool) (hash : K → ℕ) (chunk : ℕ 
   abbrev pub Does : Op K → K → Option (K × ℕ) → Option (K × ℕ) → Type 0
   Does (get k) l x y = ⊥
   Does (put k v) l x y = y ≡ cond (same k l) (some (k, v)) x
-  Does (renew k v) l x y = (y ≡ cond (same k l) (some (k, v)) x) × (T (same k l) → (z : K × ℕ) × (x ≡ some z))
+  Does (renew k v) l x y = y ≡ cond (same k l) (some (k, v)) x
   Does (cut k) l x y = ⊥
   Does (cutting k v) l x y = (y ≡ cond (same k l) none x) × (T (same k l) → (z : K × ℕ) × (x ≡ some z) × (z.1 ≡ v))
   Does (climb k) l x y = ⊥
@@ -107,4 +107,4 @@ module _ {K : Type 0} (same : K → K → Bool) (hash : K → ℕ) (chunk : ℕ 
   pub record Inv (es : List (Entry K)) (s : State K) : Type 0 where
     pub shape : Shape s.mem
     pub seats : Seats s.mem s.seats
-    pub log : Stands same hash chunk es s
+    pub log : StandsPair same hash chunk es s

@@ -6,8 +6,9 @@ use mathlib.Core.Option.{Option, none, some}
 use mathlib.Core.Logic.{◌⊎◌, inl, inr}
 use Prim.Native.Nat.{ℕ, suc}
 use lib.ListN.{length, get_or}
-use Rattle.machine.specs.Tree.{stands, on, walk, lookup, In, here, later, nth}
+use Rattle.machine.specs.Tree.{stands, on, walk, In, here, later, nth}
 use Rattle.machine.specs.Machine.{Branch, nothing, pair, cell, Main, node, tomb, many, IsTomb, IsFlat, gather, HasPair, HasCell, Mem, lone, spot, face, word, main, view, key, Seat, idle, read, swap, parent, clean, path, State, seat, CellInUse, MainInUse, PairInUse, Alike}
+use Rattle.machine.specs.Pairs.{lookup_pair}
 use Rattle.machine.proofs.Walk.{no_some, walk_on, walk_frame, seek_frame}
 use Rattle.machine.proofs.Effect.{prefixed_shrink}
 use Rattle.machine.proofs.Graft.{clash}
@@ -20,7 +21,7 @@ gather_alike xs ys [] f = refl
 gather_alike xs ys (p ∷ ps) f = rw (f p here, gather_alike xs ys ps (λ r i. f r (later i)))
 
 -- So does every main.
-face_alike : {K : Type 0} (xs ys : List (K × ℕ)) (X : Main) → ((p : ℕ) → HasPair X p → nth ys p ≡ nth xs p) → (q : ℕ) → face ys X q ≡ face xs X q
+pub face_alike : {K : Type 0} (xs ys : List (K × ℕ)) (X : Main) → ((p : ℕ) → HasPair X p → nth ys p ≡ nth xs p) → (q : ℕ) → face ys X q ≡ face xs X q
 face_alike xs ys (tomb p) f q = rw (f p refl)
 face_alike xs ys (many ps) f q = ap stands (gather_alike xs ys ps f)
 face_alike {K} xs ys (node bs) f q = go (get_or bs q nothing) refl
@@ -83,8 +84,8 @@ module _ {K : Type 0} (same : K → K → Bool) (hash : K → ℕ) (chunk : ℕ 
     pub walk_alike : (h i : ℕ) → walk chunk (view m) h i ≡ walk chunk (view s.mem) h i
     walk_alike h i = walk_frame chunk (view s.mem) (view m) h i (λ j c l w. view_alike h j c w (chunk h j))
 
-    pub lookup_alike : (k : K) → lookup same hash chunk (view m) k ≡ lookup same hash chunk (view s.mem) k
-    unfolding lookup walk
+    pub lookup_alike : (k : K) → lookup_pair same hash chunk (view m) k ≡ lookup_pair same hash chunk (view s.mem) k
+    unfolding lookup_pair walk
     lookup_alike k = seek_frame same hash chunk (view s.mem) (view m) k 7 0 0 refl (λ j d l w. view_alike (hash k) j d w (chunk (hash k) j))
 
     back : (h i c : ℕ) → walk chunk (view m) h i ≡ some c → walk chunk (view s.mem) h i ≡ some c

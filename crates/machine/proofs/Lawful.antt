@@ -19,6 +19,7 @@ use Rattle.machine.specs.Rules.{Rule, Kept, Ruled}
 use Rattle.machine.proofs.Chunk.{Chunks}
 use Rattle.machine.specs.Turn.{dropped, returns, again, swept, Goes, Turn}
 use Rattle.machine.proofs.Laws.{Laws}
+use Rattle.machine.proofs.Bearing.{Bears, bears_alike, prepares_bears}
 use Rattle.machine.proofs.Rules.{prepares_rule, prepares_new_rule, prepares_slot, cleans_rule}
 
 module _ {K : Type 0} (same : K → K → Bool) where
@@ -32,12 +33,13 @@ module _ {K : Type 0} (same : K → K → Bool) where
       go (many ps) f r = (r.0, r.1, r.2, rw (gather_alike xs ys ps f) r.3)
 
 module _ {K : Type 0} (same : K → K → Bool) (hash : K → ℕ) (chunk : ℕ → ℕ → ℕ) where
-  -- What a pending swap would bring into reach keeps the rules.
+  -- What a pending swap would bring into reach keeps the rules; and a put that replaces has read a pair of an equal key.
   abbrev pub PendRule : Mem K → Seat K → Type 0
   PendRule m idle = Unit {0}
   PendRule m (read o cs) = Unit {0}
   PendRule m (swap o c cs e n mp new) = word m c ≡ e → Kept same m.pairs (length cs) (main m n)
       × ((t d x : ℕ) → nth new t ≡ some (d, x) → Kept same m.pairs (suc (length cs) + t) (main m x))
+      × Bears same m.pairs (main m e) (chunk (hash (key o)) (length cs)) o
   PendRule m (parent o b d cs) = Unit {0}
   PendRule m (clean o b d c cs e n) = word m c ≡ e → Kept same m.pairs (length cs) (main m n)
 
@@ -92,10 +94,15 @@ module _ {K : Type 0} (same : K → K → Bool) (hash : K → ℕ) (chunk : ℕ 
     pend_rule_alike u (swap o c cs x n mp new) e ok z = λ w. (
       rw (al.mains n (MainInUse.made u (rw e (inl refl)))) (kept_same same s.mem.pairs m.pairs (length cs) (main s.mem n) (in_main (wo w)) (z (wo w)).0),
       λ t d y q. rw (al.mains y (MainInUse.made u (rw e (inr (t, d, q))))) (kept_same same s.mem.pairs m.pairs (suc (length cs) + t) (main s.mem y) (λ p h. in_new (wo w) t d y p q h) ((z (wo w)).1 t d y q)),
+      rw (al.mains x (MainInUse.expected u (rw e refl))) (bears_alike same s.mem.pairs m.pairs (main s.mem x) (in_read (wo w)) (chunk (hash (key o)) (length cs)) o (z (wo w)).2),
     )
       where
         wo : word m c ≡ x → word s.mem c ≡ x
         wo w = sym (al.words c (CellInUse.on_path u (rw e here))) ∙ w
+
+        in_read : word s.mem c ≡ x → (p : ℕ) → HasPair (main s.mem x) p → nth m.pairs p ≡ nth s.mem.pairs p
+        in_read v = of_e s.mem shape (Does same hash chunk o) (key o) c cs x n mp none new ok v (λ p. nth m.pairs p ≡ nth s.mem.pairs p)
+            (λ h i d p v y. al.pairs p (PairInUse.reached h i d v y)) (λ p y. al.pairs p (PairInUse.made u (rw e y)))
 
         in_main : word s.mem c ≡ x → (p : ℕ) → HasPair (main s.mem n) p → nth m.pairs p ≡ nth s.mem.pairs p
         in_main v = of_main_lem s.mem shape (Does same hash chunk o) (key o) c cs x n mp none new ok v (λ p. nth m.pairs p ≡ nth s.mem.pairs p)
@@ -199,6 +206,7 @@ module _ {K : Type 0} (same : K → K → Bool) (hash : K → ℕ) (chunk : ℕ 
     own_prepared s m al v i t o c cs n mp new q pr sh pend = λ w. (
       record { rule = prepares_rule same hash chunk laws chunks pr rule_was; inside = in_main w },
       λ u d y z. record { rule = prepares_new_rule same hash chunk laws chunks pr u d y z; inside = λ p h. in_new w u d y p z h },
+      rw (al.mains (word s.mem c) (MainInUse.reached (hash (key (plain o))) (length cs) c reach refl)) (prepares_bears same hash chunk laws pr kept_was.inside),
     )
       where
         p₀ : SeatOK same hash chunk s.mem (read (plain o) (c ∷ cs))
@@ -207,9 +215,12 @@ module _ {K : Type 0} (same : K → K → Bool) (hash : K → ℕ) (chunk : ℕ 
         reach : walk chunk (view s.mem) (hash (key (plain o))) (length cs) ≡ some c
         reach = is_reached same hash chunk s.mem (key (plain o)) (length cs) c p₀.0 (solid_prepares same hash chunk pr)
 
+        kept_was : Kept same m.pairs (length cs) (main s.mem (word s.mem c))
+        kept_was = kept_same same s.mem.pairs m.pairs (length cs) (main s.mem (word s.mem c))
+            (λ p x. al.pairs p (PairInUse.reached (hash (key (plain o))) (length cs) c reach x)) (i.ruled (hash (key (plain o))) (length cs) c reach)
+
         rule_was : Rule same m.pairs (length cs) (main s.mem (word s.mem c))
-        rule_was = (kept_same same s.mem.pairs m.pairs (length cs) (main s.mem (word s.mem c))
-            (λ p x. al.pairs p (PairInUse.reached (hash (key (plain o))) (length cs) c reach x)) (i.ruled (hash (key (plain o))) (length cs) c reach)).rule
+        rule_was = kept_was.rule
 
         ruled' : Ruled same chunk m
         ruled' = ruled_alike s m al v.shape i.ruled

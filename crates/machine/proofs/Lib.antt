@@ -1,5 +1,6 @@
 pub mod Laws
 pub mod Walk
+pub mod Worth
 pub mod Effect
 pub mod Graft
 pub mod Members
@@ -10,8 +11,8 @@ pub mod Split
 pub mod Keep
 pub mod Swing
 pub mod Prepare
+pub mod Bearing
 pub mod Turns
-pub mod Present
 pub mod Chunk
 pub mod Reach
 pub mod Rest
@@ -21,4 +22,5 @@ pub mod Own
 pub mod Owning
 pub mod Rules
 pub mod Lawful
+pub mod Present
 pub mod AtRest

@@ -6,7 +6,8 @@ use mathlib.Core.Option.{none, some}
 use mathlib.Core.Logic.{◌⊎◌, inl, inr}
 use Prim.Native.Nat.{ℕ}
 use lib.Dec.{T}
-use Rattle.machine.specs.Tree.{NoTwice, find, In, here, later}
+use Rattle.machine.specs.Tree.{NoTwice, In, here, later}
+use Rattle.machine.specs.Pairs.{find_pair}
 use Rattle.machine.proofs.Walk.{no_some}
 use Rattle.machine.proofs.Laws.{Laws}
 
@@ -31,10 +32,10 @@ T? true = inl tt
 T? false = inr (λ t. t)
 
 -- Pairs of other keys say nothing.
-pub find_none : {K : Type 0} (same : K → K → Bool) (l : K) (ps : List (K × ℕ)) → ((x : K × ℕ) → In x ps → ¬ T (same x.0 l)) → find same l ps ≡ none
-unfolding find
+pub find_none : {K : Type 0} (same : K → K → Bool) (l : K) (ps : List (K × ℕ)) → ((x : K × ℕ) → In x ps → ¬ T (same x.0 l)) → find_pair same l ps ≡ none
+unfolding find_pair
 find_none same l [] f = refl
-find_none same l (p ∷ ps) f = sym (unlike (same p.0 l) (some p) (find same l ps) (f p here)) ∙ find_none same l ps (λ x i. f x (later i))
+find_none same l (p ∷ ps) f = sym (unlike (same p.0 l) (some p) (find_pair same l ps) (f p here)) ∙ find_none same l ps (λ x i. f x (later i))
 
 -- A member of a list with one more at its end.
 pub in_last : {A : Type 0} (xs : List A) (y x : A) → In x (xs ++ (y ∷ [])) → In x xs ⊎ (y ≡ x)
@@ -55,34 +56,34 @@ either_first false b x y z f = refl
 
 module _ {K : Type 0} (same : K → K → Bool) (hash : K → ℕ) (laws : Laws same hash) where
   -- A member is found, where no key comes twice.
-  pub find_in : (k : K) (ps : List (K × ℕ)) (x : K × ℕ) → NoTwice same ps → In x ps → T (same x.0 k) → find same k ps ≡ some x
-  unfolding find
+  pub find_in : (k : K) (ps : List (K × ℕ)) (x : K × ℕ) → NoTwice same ps → In x ps → T (same x.0 k) → find_pair same k ps ≡ some x
+  unfolding find_pair
   find_in k [] x n j t = elim j [ ]
-  find_in k (p ∷ ps) x n (In.here) t = alike (same p.0 k) (some p) (find same k ps) t
+  find_in k (p ∷ ps) x n (In.here) t = alike (same p.0 k) (some p) (find_pair same k ps) t
   find_in k (p ∷ ps) x n (In.later j) t =
-      sym (unlike (same p.0 k) (some p) (find same k ps) (λ u. n.0 x j (laws.transitive p.0 k x.0 u (laws.symmetric x.0 k t))))
+      sym (unlike (same p.0 k) (some p) (find_pair same k ps) (λ u. n.0 x j (laws.transitive p.0 k x.0 u (laws.symmetric x.0 k t))))
       ∙ find_in k ps x n.1 j t
 
   -- A key that a list lacks, put at its end.
   pub find_last : (k : K) (v : ℕ) (l : K) (ps : List (K × ℕ)) → ((x : K × ℕ) → In x ps → ¬ T (same x.0 k))
-      → find same l (ps ++ ((k, v) ∷ [])) ≡ cond (same k l) (some (k, v)) (find same l ps)
-  unfolding find
+      → find_pair same l (ps ++ ((k, v) ∷ [])) ≡ cond (same k l) (some (k, v)) (find_pair same l ps)
+  unfolding find_pair
   find_last k v l [] f = refl
   find_last k v l (p ∷ ps) f =
       rw (find_last k v l ps (λ x i. f x (later i)))
-      (either_first (same p.0 l) (same k l) (some p) (some (k, v)) (find same l ps)
+      (either_first (same p.0 l) (same k l) (some p) (some (k, v)) (find_pair same l ps)
       (λ t u. f p here (laws.transitive p.0 l k t (laws.symmetric k l u))))
 
   -- A key of which a list says nothing is that of none of its members.
-  pub find_lacks : (k : K) (ps : List (K × ℕ)) → find same k ps ≡ none → (x : K × ℕ) → In x ps → ¬ T (same x.0 k)
-  unfolding find
+  pub find_lacks : (k : K) (ps : List (K × ℕ)) → find_pair same k ps ≡ none → (x : K × ℕ) → In x ps → ¬ T (same x.0 k)
+  unfolding find_pair
   find_lacks k [] e x j = elim j [ ]
   find_lacks k (p ∷ ps) e x j =
-      go (T? (same p.0 k)) (λ f. find_lacks k ps (unlike (same p.0 k) (some p) (find same k ps) f ∙ e)) x j
+      go (T? (same p.0 k)) (λ f. find_lacks k ps (unlike (same p.0 k) (some p) (find_pair same k ps) f ∙ e)) x j
     where
       go : T (same p.0 k) ⊎ (T (same p.0 k) → ⊥) → (¬ T (same p.0 k) → (x : K × ℕ) → In x ps → ¬ T (same x.0 k))
           → (x : K × ℕ) → In x (p ∷ ps) → ¬ T (same x.0 k)
-      go (inl t) others x j = absurd (no_some (sym e ∙ alike (same p.0 k) (some p) (find same k ps) t))
+      go (inl t) others x j = absurd (no_some (sym e ∙ alike (same p.0 k) (some p) (find_pair same k ps) t))
       go (inr f) others x (In.here) = f
       go (inr f) others x (In.later j) = others f x j
 
@@ -103,36 +104,36 @@ module _ {K : Type 0} (same : K → K → Bool) (hash : K → ℕ) (laws : Laws 
 
   -- Two lists with the same members of an equal key say the same.
   pub members_find : (k : K) (ps qs : List (K × ℕ)) → NoTwice same ps → NoTwice same qs
-      → ((x : K × ℕ) → T (same x.0 k) → In x ps → In x qs) → ((x : K × ℕ) → T (same x.0 k) → In x qs → In x ps) → find same k qs ≡ find same k ps
+      → ((x : K × ℕ) → T (same x.0 k) → In x ps → In x qs) → ((x : K × ℕ) → T (same x.0 k) → In x qs → In x ps) → find_pair same k qs ≡ find_pair same k ps
   members_find k ps qs np nq f g = go (find_cases k ps)
     where
-      go : ((x : K × ℕ) × In x ps × T (same x.0 k)) ⊎ ((x : K × ℕ) → In x ps → ¬ T (same x.0 k)) → find same k qs ≡ find same k ps
+      go : ((x : K × ℕ) × In x ps × T (same x.0 k)) ⊎ ((x : K × ℕ) → In x ps → ¬ T (same x.0 k)) → find_pair same k qs ≡ find_pair same k ps
       go (inl x) = find_in k qs x.0 nq (f x.0 x.2 x.1) x.2 ∙ sym (find_in k ps x.0 np x.1 x.2)
       go (inr n) = find_none same k qs (λ x j t. n x (g x t j) t) ∙ sym (find_none same k ps n)
 
   -- A cut in a list leaves the members but the one of an equal key.
   pub cut_members : (k : K) (ps qs : List (K × ℕ)) (x : K × ℕ) → NoTwice same ps → NoTwice same qs → In x ps → T (same x.0 k)
       → ((y : K × ℕ) → In y qs → In y ps) → ((y : K × ℕ) → In y qs → ¬ T (same y.0 k)) → ((y : K × ℕ) → In y ps → ¬ T (same y.0 k) → In y qs)
-      → (l : K) → (find same l qs ≡ cond (same k l) none (find same l ps)) × (T (same k l) → find same l ps ≡ some x)
+      → (l : K) → (find_pair same l qs ≡ cond (same k l) none (find_pair same l ps)) × (T (same k l) → find_pair same l ps ≡ some x)
   cut_members k ps qs x np nq j t old off kept l = (go (T? (same k l)), λ u. find_in l ps x np j (laws.transitive x.0 k l t u))
     where
-      go : T (same k l) ⊎ (T (same k l) → ⊥) → find same l qs ≡ cond (same k l) none (find same l ps)
-      go (inl u) = find_none same l qs (λ y i z. off y i (laws.transitive y.0 l k z (laws.symmetric k l u))) ∙ sym (alike (same k l) none (find same l ps) u)
+      go : T (same k l) ⊎ (T (same k l) → ⊥) → find_pair same l qs ≡ cond (same k l) none (find_pair same l ps)
+      go (inl u) = find_none same l qs (λ y i z. off y i (laws.transitive y.0 l k z (laws.symmetric k l u))) ∙ sym (alike (same k l) none (find_pair same l ps) u)
       go (inr f) =
           members_find l ps qs np nq (λ y u i. kept y i (λ z. f (laws.transitive k y.0 l (laws.symmetric y.0 k z) u))) (λ y u i. old y i)
-          ∙ unlike (same k l) none (find same l ps) f
+          ∙ unlike (same k l) none (find_pair same l ps) f
 
   -- A put in a list brings its pair, new or in place of that of an equal key.
   pub put_members : (k : K) (v : ℕ) (ps qs : List (K × ℕ)) → NoTwice same ps → NoTwice same qs → In (k, v) qs
       → ((y : K × ℕ) → In y qs → ¬ T (same y.0 k) → In y ps) → ((y : K × ℕ) → In y ps → ¬ T (same y.0 k) → In y qs)
-      → (l : K) → find same l qs ≡ cond (same k l) (some (k, v)) (find same l ps)
+      → (l : K) → find_pair same l qs ≡ cond (same k l) (some (k, v)) (find_pair same l ps)
   put_members k v ps qs np nq j old kept l = go (T? (same k l))
     where
       other : (T (same k l) → ⊥) → (y : K × ℕ) → T (same y.0 l) → ¬ T (same y.0 k)
       other f y u z = f (laws.transitive k y.0 l (laws.symmetric y.0 k z) u)
 
-      go : T (same k l) ⊎ (T (same k l) → ⊥) → find same l qs ≡ cond (same k l) (some (k, v)) (find same l ps)
-      go (inl u) = find_in l qs (k, v) nq j u ∙ sym (alike (same k l) (some (k, v)) (find same l ps) u)
+      go : T (same k l) ⊎ (T (same k l) → ⊥) → find_pair same l qs ≡ cond (same k l) (some (k, v)) (find_pair same l ps)
+      go (inl u) = find_in l qs (k, v) nq j u ∙ sym (alike (same k l) (some (k, v)) (find_pair same l ps) u)
       go (inr f) =
           members_find l ps qs np nq (λ y u i. kept y i (other f y u)) (λ y u i. old y i (other f y u))
-          ∙ unlike (same k l) (some (k, v)) (find same l ps) f
+          ∙ unlike (same k l) (some (k, v)) (find_pair same l ps) f

@@ -8,8 +8,9 @@ use Prim.Native.Nat.{ℕ, suc}
 use native.Mathlib.Omega.{arith}
 use native.Mathlib.Decide.{ℕ_discrete}
 use lib.Dec.{T}
-use Rattle.machine.specs.Tree.{Spot, stands, on, Agree, find, In, here, Home}
+use Rattle.machine.specs.Tree.{Spot, stands, on, Agree, In, here, Home}
 use Rattle.machine.specs.Machine.{put, renew, cutting}
+use Rattle.machine.specs.Pairs.{find_pair}
 use Rattle.machine.proofs.Walk.{no_some}
 use Rattle.machine.proofs.Laws.{Laws}
 use Rattle.machine.proofs.Members.{unlike, in_one, find_none}
@@ -72,7 +73,7 @@ module _ {K : Type 0} (same : K → K → Bool) (hash : K → ℕ) (chunk : ℕ 
     -- A put fills an empty chunk.
     pub ready_adds : (v : ℕ) → F q₀ ≡ stands [] → G q₀ ≡ stands ((k, v) ∷ []) → ((q : ℕ) → q ≢ q₀ → G q ≡ F q)
         → Ready same hash chunk (Does same hash chunk (put k v)) (hash k) a F G ⊥ none (on 0) [] E
-    unfolding find
+    unfolding find_pair
     ready_adds v f e other =
         ready_set (Does same hash chunk (put k v)) ⊥ none (on 0) ((k, v) ∷ []) e other (Spots.both [] ((k, v) ∷ []) f e)
         (λ x i. rw (in_one x (k, v) i) (record { agrees = λ j l. refl; proper = inl refl }))
@@ -80,8 +81,8 @@ module _ {K : Type 0} (same : K → K → Bool) (hash : K → ℕ) (chunk : ℕ 
         (λ l. Near.both [] ((k, v) ∷ []) f e refl)
 
     -- A pair of an equal key is found where it stands alone.
-    found_alone : (x : K × ℕ) (l : K) → T (same x.0 l) → find same l (x ∷ []) ≡ some x
-    unfolding find
+    found_alone : (x : K × ℕ) (l : K) → T (same x.0 l) → find_pair same l (x ∷ []) ≡ some x
+    unfolding find_pair
     found_alone x l t = at (same x.0 l) t
       where
         at : (b : Bool) → T b → cond b (some x) none ≡ some x
@@ -91,27 +92,26 @@ module _ {K : Type 0} (same : K → K → Bool) (hash : K → ℕ) (chunk : ℕ 
     -- A put replaces the pair of an equal key.
     pub ready_replaces : (v : ℕ) (x : K × ℕ) → T (same x.0 k) → F q₀ ≡ stands (x ∷ []) → G q₀ ≡ stands ((k, v) ∷ []) → ((q : ℕ) → q ≢ q₀ → G q ≡ F q)
         → Ready same hash chunk (Does same hash chunk (renew k v)) (hash k) a F G ⊥ none (on 0) [] E
-    unfolding find
+    unfolding find_pair
     ready_replaces v x t f e other =
         ready_set (Does same hash chunk (renew k v)) ⊥ none (on 0) ((k, v) ∷ []) e other (Spots.both (x ∷ []) ((k, v) ∷ []) f e)
         (λ y i. rw (in_one y (k, v) i) (record { agrees = λ j l. refl; proper = inl refl }))
-        (λ l f x. (unlike (same k l) (some (k, v)) x f, λ s. absurd (f s)))
-        (λ l. Near.both (x ∷ []) ((k, v) ∷ []) f e
-        (go l (same k l) (λ s. laws.transitive k x.0 l (laws.symmetric x.0 k t) s), λ s. (x, found_alone x l (laws.transitive x.0 k l t s))))
+        (λ l f x. unlike (same k l) (some (k, v)) x f)
+        (λ l. Near.both (x ∷ []) ((k, v) ∷ []) f e (go l (same k l) (λ s. laws.transitive k x.0 l (laws.symmetric x.0 k t) s)))
       where
-        go : (l : K) (b : Bool) → (T (same x.0 l) → T b) → cond b (some (k, v)) none ≡ cond b (some (k, v)) (find same l (x ∷ []))
+        go : (l : K) (b : Bool) → (T (same x.0 l) → T b) → cond b (some (k, v)) none ≡ cond b (some (k, v)) (find_pair same l (x ∷ []))
         go l true g = refl
         go l false g = unlike (same x.0 l) (some x) none g
 
     -- What a cut does to the pair x of an equal key.
-    gone : (x : K × ℕ) → T (same x.0 k) → (l : K) → Does same hash chunk (cutting k x.1) l (find same l (x ∷ [])) none
-    unfolding find
+    gone : (x : K × ℕ) → T (same x.0 k) → (l : K) → Does same hash chunk (cutting k x.1) l (find_pair same l (x ∷ [])) none
+    unfolding find_pair
     gone x t l = (go (same k l) (λ z. z) (λ z. z), λ s. (x, found_alone x l (laws.transitive x.0 k l t s), refl))
       where
         forth : T (same x.0 l) → T (same k l)
         forth s = laws.transitive k x.0 l (laws.symmetric x.0 k t) s
 
-        go : (b : Bool) → (T (same k l) → T b) → (T b → T (same k l)) → none ≡ cond b none (find same l (x ∷ []))
+        go : (b : Bool) → (T (same k l) → T b) → (T b → T (same k l)) → none ≡ cond b none (find_pair same l (x ∷ []))
         go true f g = refl
         go false f g = unlike (same x.0 l) (some x) none (λ s. f (forth s))
 
@@ -122,20 +122,20 @@ module _ {K : Type 0} (same : K → K → Bool) (hash : K → ℕ) (chunk : ℕ 
     -- A cut empties a chunk.
     pub ready_drops : (x : K × ℕ) → T (same x.0 k) → F q₀ ≡ stands (x ∷ []) → G q₀ ≡ stands [] → ((q : ℕ) → q ≢ q₀ → G q ≡ F q)
         → Ready same hash chunk (Does same hash chunk (cutting k x.1)) (hash k) a F G ⊥ none (on 0) [] E
-    unfolding find
+    unfolding find_pair
     ready_drops x t f e other =
         ready_set (Does same hash chunk (cutting k x.1)) ⊥ none (on 0) [] e other (Spots.both (x ∷ []) [] f e)
         (λ y i. elim i [ ]) (far_cut x.1) (λ l. Near.both (x ∷ []) [] f e (gone x t l))
 
     -- Pairs at the chunk r say nothing of a key at another chunk.
-    silent : (qs : List (K × ℕ)) (r : ℕ) → ((y : K × ℕ) → In y qs → chunk (hash y.0) a ≡ r) → (l : K) → chunk (hash l) a ≢ r → find same l qs ≡ none
+    silent : (qs : List (K × ℕ)) (r : ℕ) → ((y : K × ℕ) → In y qs → chunk (hash y.0) a ≡ r) → (l : K) → chunk (hash l) a ≢ r → find_pair same l qs ≡ none
     silent qs r own l ne = find_none same l qs (λ y i s. ne (sym (ap (λ h. chunk h a) (laws.hashes y.0 l s)) ∙ own y i))
 
     -- A cut leaves one pair, which is buried.
     pub ready_entombs : (x y : K × ℕ) (r : ℕ) → T (same x.0 k) → r ≢ q₀ → F q₀ ≡ stands (x ∷ []) → F r ≡ stands (y ∷ [])
         → ((j : ℕ) → j ≢ q₀ → j ≢ r → F j ≡ stands []) → ((q : ℕ) → G q ≡ stands (y ∷ []))
         → Ready same hash chunk (Does same hash chunk (cutting k x.1)) (hash k) a F G (Unit {0}) none (on 0) [] E
-    unfolding find
+    unfolding find_pair
     ready_entombs x y r t ne f fr others g = record {
       chain = λ t e q d x. absurd (no_some x);
       short = λ t e x. absurd (no_some x);
@@ -163,7 +163,7 @@ module _ {K : Type 0} (same : K → K → Bool) (hash : K → ℕ) (chunk : ℕ 
             Near.both (x ∷ []) (y ∷ []) (rw p f) (g q)
             (rw (silent (y ∷ []) r own l (λ z. ne (sym z ∙ e ∙ p))) (gone x t l))
         nx l q e (no p) (yes d) =
-            Near.both (y ∷ []) (y ∷ []) (rw d fr) (g q) (far_cut x.1 l (λ s. p (sym e ∙ like l s a)) (find same l (y ∷ [])))
+            Near.both (y ∷ []) (y ∷ []) (rw d fr) (g q) (far_cut x.1 l (λ s. p (sym e ∙ like l s a)) (find_pair same l (y ∷ [])))
         nx l q e (no p) (no d) =
             Near.both [] (y ∷ []) (others q p d) (g q)
             (rw (silent (y ∷ []) r own l (λ z. d (sym e ∙ z))) (far_cut x.1 l (λ s. p (sym e ∙ like l s a)) none))
@@ -181,7 +181,7 @@ module _ {K : Type 0} (same : K → K → Bool) (hash : K → ℕ) (chunk : ℕ 
     pub ready_buries : (d : ℕ) (tomb : Spot K) (qs : List (K × ℕ)) → tomb ≡ stands qs → F q₀ ≡ on d → ((j : ℕ) → j ≢ q₀ → F j ≡ stands [])
         → ((q : ℕ) → G q ≡ stands qs) → ((x : K × ℕ) → In x qs → Agree chunk (hash x.0) (hash k) (suc a))
         → Ready same hash chunk (Same same hash chunk) (hash k) a F G (Unit {0}) (some d) tomb [] E
-    unfolding find
+    unfolding find_pair
     ready_buries d tomb qs t f others g ag = record {
       chain = λ t e q d x. absurd (no_some x);
       short = λ t e x. absurd (no_some x);
@@ -207,7 +207,7 @@ module _ {K : Type 0} (same : K → K → Bool) (hash : K → ℕ) (chunk : ℕ 
   -- A flat main gives way to a flat main.
   pub ready_flat : (R : K → Option (K × ℕ) → Option (K × ℕ) → Type 0) (k : K) (a : ℕ) (F G : ℕ → Spot K) (E : ℕ → ℕ → Spot K) (ps qs : List (K × ℕ))
       → ((q : ℕ) → F q ≡ stands ps) → ((q : ℕ) → G q ≡ stands qs) → ((x : K × ℕ) → In x qs → Agree chunk (hash x.0) (hash k) a)
-      → ((l : K) → ¬ T (same k l) → (x : Option (K × ℕ)) → R l x x) → ((l : K) → R l (find same l ps) (find same l qs))
+      → ((l : K) → ¬ T (same k l) → (x : Option (K × ℕ)) → R l x x) → ((l : K) → R l (find_pair same l ps) (find_pair same l qs))
       → Ready same hash chunk R (hash k) a F G (Unit {0}) none (on 0) [] E
   ready_flat R k a F G E ps qs f g ag un nr = record {
     chain = λ t e q d x. absurd (no_some x);

@@ -28,7 +28,7 @@ module _ {K : Type 0} (same : K → K → Bool) (hash : K → ℕ) (chunk : ℕ 
   prepares_cuts (Prepares.adds k v bs p x l z slot) t = absurd t
   prepares_cuts (Prepares.replaces k v bs r p x xe l z slot y slot-p) t = absurd t
   prepares_cuts (Prepares.extends k v ps p xe ab slot short) t = absurd t
-  prepares_cuts (Prepares.alters k v ps qs p x xe slot ix tx np nq len ip names old kept) t = absurd t
+  prepares_cuts (Prepares.alters k v ps qs p xe slot np nq len ip names old kept) t = absurd t
   prepares_cuts (Prepares.shrinks k ps qs x xe ix tx np nq two len names old off kept) t = absurd t
   prepares_cuts (Prepares.buries k ps r x z xe ix tx np ir slot iz nz all pos) t = (tt, pos)
   prepares_cuts (Prepares.drops k bs p x xe l z slot y stays) t = absurd t
@@ -50,7 +50,7 @@ module _ {K : Type 0} (same : K → K → Bool) (hash : K → ℕ) (chunk : ℕ 
   prepares_new (Prepares.adds k v bs p x l z slot) t d y q i = no_some q
   prepares_new (Prepares.replaces k v bs r p x xe l z slot yy slot-p) t d y q i = no_some q
   prepares_new (Prepares.extends k v ps p xe ab slot short) t d y q i = no_some q
-  prepares_new (Prepares.alters k v ps qs p x xe slot ix tx np nq len ip names old kept) t d y q i = no_some q
+  prepares_new (Prepares.alters k v ps qs p xe slot np nq len ip names old kept) t d y q i = no_some q
   prepares_new (Prepares.shrinks k ps qs x xe ix tx np nq two len names old off kept) t d y q i = no_some q
   prepares_new (Prepares.buries k ps r x z xe ix tx np ir slot iz nz all pos) t d y q i = no_some q
   prepares_new (Prepares.drops k bs p x xe l z slot yy stays) t d y q i = no_some q

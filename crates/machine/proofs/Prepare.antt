@@ -14,7 +14,8 @@ use Rattle.machine.specs.Machine.{Branch, nothing, pair, cell, Main, node, tomb,
 use Rattle.machine.proofs.Laws.{Laws}
 use Rattle.machine.proofs.Walk.{no_some, some_is, walk_on}
 use Rattle.machine.proofs.Ready.{Ready}
-use Rattle.machine.proofs.Members.{in_one, unlike, T?, in_last, find_in, find_last, find_lacks, cut_members, put_members}
+use Rattle.machine.proofs.Worth.{none_pair}
+use Rattle.machine.proofs.Members.{in_one, unlike, T?, in_last, find_last, find_lacks, cut_members, put_members}
 use Rattle.machine.proofs.Outcomes.{ready_adds, ready_replaces, ready_flat, ready_drops, ready_entombs, ready_contracts, ready_buries}
 use Rattle.machine.proofs.Inv.{MainFree, PairFree, PathOK, Does, Same, cells, faces, Pend, Shape}
 use Rattle.machine.proofs.Split.{no_pair, cell_pair, ready_splits, chain_names}
@@ -159,7 +160,7 @@ module _ {K : Type 0} (same : K → K → Bool) (hash : K → ℕ) (chunk : ℕ 
         (ready_flat same hash chunk laws (Does same hash chunk (put k v)) k (length cs) (face m.pairs (many ps)) (face m.pairs (many (ps ++ (p ∷ [])))) (faces m [])
         (gather m.pairs ps) (gather m.pairs ps ++ ((k, v) ∷ [])) (λ q. refl) (λ q. ap stands (gather_last m.pairs ps p (k, v) slot))
         (λ x j. homes x (in_last (gather m.pairs ps) (k, v) x j)) (λ l f x. unlike (same k l) (some (k, v)) x f)
-        (λ l. find_last same hash laws k v l (gather m.pairs ps) (find_lacks same hash laws k (gather m.pairs ps) absent)))
+        (λ l. find_last same hash laws k v l (gather m.pairs ps) (find_lacks same hash laws k (gather m.pairs ps) (none_pair same k (gather m.pairs ps) absent))))
       where
         to : (r : ℕ) → In r ps ⊎ (p ≡ r) → In r ps ⊎ (some p ≡ some r)
         to r (inl y) = inl y
@@ -168,16 +169,13 @@ module _ {K : Type 0} (same : K → K → Bool) (hash : K → ℕ) (chunk : ℕ 
         homes : (x : K × ℕ) → In x (gather m.pairs ps) ⊎ ((k, v) ≡ x) → Agree chunk (hash x.0) (hash k) (length cs)
         homes x (inl y) = list_homes k ps xe path x y
         homes x (inr y) = rw (← y) (λ j l. refl)
-    prepares_pend Y my o mp new nw path pf (Prepares.alters k v ps qs p z xe slot iz tz np nq len ip names old kept) =
+    prepares_pend Y my o mp new nw path pf (Prepares.alters k v ps qs p xe slot np nq len ip names old kept) =
         pend_of _ my (Does same hash chunk (renew k v)) k (some p) [] nw (many ps) xe (λ t. t) path pf
         (λ r y. to r (names r y)) (λ t d x p z. absurd (no_some z))
         (ready_flat same hash chunk laws (Does same hash chunk (renew k v)) k (length cs) (face m.pairs (many ps)) (face m.pairs (many qs)) (faces m [])
         (gather m.pairs ps) (gather m.pairs qs) (λ q. refl) (λ q. refl)
-        (λ x j. homes x j (T? (same x.0 k))) (λ l f x. (unlike (same k l) (some (k, v)) x f, λ t. absurd (f t)))
-        (λ l. (
-          put_members same hash laws k v (gather m.pairs ps) (gather m.pairs qs) np nq (gather_in m.pairs qs p (k, v) ip slot) old kept l,
-          λ t. (z, find_in same hash laws l (gather m.pairs ps) z np iz (laws.transitive z.0 k l tz t)),
-        )))
+        (λ x j. homes x j (T? (same x.0 k))) (λ l f x. unlike (same k l) (some (k, v)) x f)
+        (put_members same hash laws k v (gather m.pairs ps) (gather m.pairs qs) np nq (gather_in m.pairs qs p (k, v) ip slot) old kept))
       where
         to : (r : ℕ) → In r ps ⊎ (p ≡ r) → In r ps ⊎ (some p ≡ some r)
         to r (inl y) = inl y

@@ -6,7 +6,8 @@ use mathlib.Core.Option.{Option, some}
 use mathlib.Core.Logic.{◌⊎◌, inl, inr, ◌≢◌}
 use Prim.Native.Nat.{ℕ, suc, ◌+◌, ◌≤◌}
 use native.Mathlib.Omega.{arith}
-use Rattle.machine.specs.Tree.{Level, Spot, stands, on, Tree, Agree, walk, find, lookup, Prefixed, In, nth, Home, Placed}
+use Rattle.machine.specs.Tree.{Level, Spot, stands, on, Tree, Agree, walk, Prefixed, In, nth, Home, Placed}
+use Rattle.machine.specs.Pairs.{find_pair, lookup_pair}
 use Rattle.machine.proofs.Walk.{walk_on, walk_agree}
 use Rattle.machine.proofs.Effect.{Ends, stop, more, Local, kept, changed, swap_effect}
 use Rattle.machine.proofs.Graft.{Graft, New, clash, walked_back, walked_on, prefixed_graft, placed_graft}
@@ -26,9 +27,9 @@ pub data Leads {K : Type 0} (chunk : ℕ → ℕ → ℕ) (h : ℕ) (cells : Lis
 -- The same of a spot, and of what a key l finds there before and after.
 pub data Near {K : Type 0} (same : K → K → Bool) (chunk : ℕ → ℕ → ℕ) (l : K) (h a : ℕ) (R : Option (K × ℕ) → Option (K × ℕ) → Type 0) (F G : Spot K) (td : Option ℕ) (tomb : Spot K) (cells : List ℕ) (E : ℕ → ℕ → Spot K) : Type 0 where
   as_was : G ≡ F → ((x : Option (K × ℕ)) → R x x) → Near same chunk l h a R F G td tomb cells E
-  both : (ps qs : List (K × ℕ)) → F ≡ stands ps → G ≡ stands qs → R (find same l ps) (find same l qs) → Near same chunk l h a R F G td tomb cells E
-  prune : (d : ℕ) (ps : List (K × ℕ)) → td ≡ some d → F ≡ on d → tomb ≡ stands ps → G ≡ stands ps → R (find same l ps) (find same l ps) → Near same chunk l h a R F G td tomb cells E
-  graft : (d : ℕ) (ps qs : List (K × ℕ)) → F ≡ stands ps → G ≡ on d → nth cells 0 ≡ some d → Leads chunk h cells E qs 0 (suc a) → R (find same l ps) (find same l qs)
+  both : (ps qs : List (K × ℕ)) → F ≡ stands ps → G ≡ stands qs → R (find_pair same l ps) (find_pair same l qs) → Near same chunk l h a R F G td tomb cells E
+  prune : (d : ℕ) (ps : List (K × ℕ)) → td ≡ some d → F ≡ on d → tomb ≡ stands ps → G ≡ stands ps → R (find_pair same l ps) (find_pair same l ps) → Near same chunk l h a R F G td tomb cells E
+  graft : (d : ℕ) (ps qs : List (K × ℕ)) → F ≡ stands ps → G ≡ on d → nth cells 0 ≡ some d → Leads chunk h cells E qs 0 (suc a) → R (find_pair same l ps) (find_pair same l qs)
       → Near same chunk l h a R F G td tomb cells E
 
 -- The chunk q is the chunk r.
@@ -132,7 +133,7 @@ module _ {K : Type 0} (same : K → K → Bool) (hash : K → ℕ) (chunk : ℕ 
   leads_ends l qs t e i x (leads d y z w) = more d (same_there t e x (chunk (hash l) i) ∙ y) (leads_ends l qs (suc t) d (suc i) z w)
 
   -- The swap does to every key's lookup what it should.
-  pub ready_effect : (l : K) → R l (lookup same hash chunk M l) (lookup same hash chunk N l)
+  pub ready_effect : (l : K) → R l (lookup_pair same hash chunk M l) (lookup_pair same hash chunk N l)
   ready_effect = swap_effect same hash chunk M N one h a c reached but R r.far (λ l ag. go l ag (r.near l ag))
     where
       la : a ≤ 7

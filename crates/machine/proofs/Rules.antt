@@ -12,6 +12,7 @@ use lib.ListN.{length, get_or, set}
 use lib.Seq.{get_or-set_same, get_or-set_other}
 use Rattle.machine.specs.Tree.{NoTwice, In, here, later, nth}
 use Rattle.machine.specs.Machine.{Taken, Branch, nothing, pair, cell, Main, many, Mem, gather, main, Op, Prepares, Cleans, Chain}
+use Rattle.machine.proofs.Worth.{none_pair}
 use Rattle.machine.proofs.Walk.{no_some}
 use Rattle.machine.proofs.Members.{in_last, find_lacks}
 use Rattle.machine.proofs.Split.{no_pair, cell_pair, second}
@@ -158,7 +159,7 @@ module _ {K : Type 0} (same : K → K → Bool) (hash : K → ℕ) (chunk : ℕ 
   prepares_new_rule (Prepares.adds k v bs p x l z slot) t d y q = absurd (no_some q)
   prepares_new_rule (Prepares.replaces k v bs r p x xe l z slot yy slot-p) t d y q = absurd (no_some q)
   prepares_new_rule (Prepares.extends k v ps p xe ab slot short) t d y q = absurd (no_some q)
-  prepares_new_rule (Prepares.alters k v ps qs p x xe slot ix tx np nq len ip names old kept) t d y q = absurd (no_some q)
+  prepares_new_rule (Prepares.alters k v ps qs p xe slot np nq len ip names old kept) t d y q = absurd (no_some q)
   prepares_new_rule (Prepares.shrinks k ps qs x xe ix tx np nq two len names old off kept) t d y q = absurd (no_some q)
   prepares_new_rule (Prepares.buries k ps r x z xe ix tx np ir slot iz nz all pos) t d y q = absurd (no_some q)
   prepares_new_rule (Prepares.drops k bs p x xe l z slot yy stays) t d y q = absurd (no_some q)
@@ -171,7 +172,7 @@ module _ {K : Type 0} (same : K → K → Bool) (hash : K → ℕ) (chunk : ℕ 
   prepares_slot (Prepares.adds k v bs p x l z slot) s q = let e : p ≡ s = cc in ((k, v), rw (← e) slot)
   prepares_slot (Prepares.replaces k v bs r p x xe l z slot yy slot-p) s q = let e : p ≡ s = cc in ((k, v), rw (← e) slot-p)
   prepares_slot (Prepares.extends k v ps p xe ab slot short) s q = let e : p ≡ s = cc in ((k, v), rw (← e) slot)
-  prepares_slot (Prepares.alters k v ps qs p x xe slot ix tx np nq len ip names old kept) s q = let e : p ≡ s = cc in ((k, v), rw (← e) slot)
+  prepares_slot (Prepares.alters k v ps qs p xe slot np nq len ip names old kept) s q = let e : p ≡ s = cc in ((k, v), rw (← e) slot)
   prepares_slot (Prepares.shrinks k ps qs x xe ix tx np nq two len names old off kept) s q = absurd (no_some q)
   prepares_slot (Prepares.buries k ps r x z xe ix tx np ir slot iz nz all pos) s q = absurd (no_some q)
   prepares_slot (Prepares.drops k bs p x xe l z slot yy stays) s q = absurd (no_some q)
@@ -200,9 +201,9 @@ module _ {K : Type 0} (same : K → K → Bool) (hash : K → ℕ) (chunk : ℕ 
         omega arith,
         omega arith,
         rw (gather_last m.pairs ps p (k, v) slot)
-            (no_twice_last (gather m.pairs ps) k v n.3 (find_lacks same hash laws k (gather m.pairs ps) ab)),
+            (no_twice_last (gather m.pairs ps) k v n.3 (find_lacks same hash laws k (gather m.pairs ps) (none_pair same k (gather m.pairs ps) ab))),
       )
-  prepares_rule {m = m} {a = a} (Prepares.alters k v ps qs p x xe slot ix tx np nq len ip names old kept) r =
+  prepares_rule {m = m} {a = a} (Prepares.alters k v ps qs p xe slot np nq len ip names old kept) r =
       let n : Rule same m.pairs a (many ps) = rw xe at r in
       (n.0, rw len n.1, rw len n.2, nq)
   prepares_rule {m = m} {a = a} (Prepares.shrinks k ps qs x xe ix tx np nq two len names old off kept) r =

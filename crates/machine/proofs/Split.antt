@@ -9,8 +9,9 @@ use native.Mathlib.Omega.{arith}
 use native.Mathlib.Decide.{ℕ_discrete}
 use lib.Dec.{T}
 use lib.ListN.{get_or}
-use Rattle.machine.specs.Tree.{Level, Spot, stands, on, Agree, find, In, here, later, nth, Home}
+use Rattle.machine.specs.Tree.{Level, Spot, stands, on, Agree, In, here, later, nth, Home}
 use Rattle.machine.specs.Machine.{Branch, nothing, pair, cell, node, many, HasPair, Mem, face, main, put, Chain}
+use Rattle.machine.specs.Pairs.{find_pair}
 use Rattle.machine.proofs.Laws.{Laws}
 use Rattle.machine.proofs.Walk.{no_some, agree_suc}
 use Rattle.machine.proofs.Graft.{clash}
@@ -140,13 +141,13 @@ module _ {K : Type 0} (same : K → K → Bool) (hash : K → ℕ) (chunk : ℕ 
   pub record Comes (l : K) (i : ℕ) (new : List (ℕ × ℕ)) : Type 0 where
     pub at : List (K × ℕ)
     pub way : Leads chunk (hash l) (cells new) (faces m new) at 0 i
-    pub says : find same l at ≡ cond (same k l) (some (k, v)) (find same l (x ∷ []))
+    pub says : find_pair same l at ≡ cond (same k l) (some (k, v)) (find_pair same l (x ∷ []))
 
   -- A key with another chunk is not equal to k.
   unlike_k : (l : K) (i : ℕ) → chunk (hash l) i ≢ chunk (hash k) i → ¬ T (same k l)
   unlike_k l i ne t = ne (rw (laws.hashes k l t))
 
-  silent : (l : K) → ¬ T (same x.0 l) → find same l (x ∷ []) ≡ none
+  silent : (l : K) → ¬ T (same x.0 l) → find_pair same l (x ∷ []) ≡ none
   silent l f = find_none same l (x ∷ []) (λ y j t. f (rw (in_one y x j) at t))
 
   -- Nor to the key of x.
@@ -154,15 +155,15 @@ module _ {K : Type 0} (same : K → K → Bool) (hash : K → ℕ) (chunk : ℕ 
   unlike_x l i ne t = ne (rw (laws.hashes x.0 l t))
 
   -- What is said of a key at an empty chunk, at the new pair's chunk, and by the list.
-  nothing_says : (l : K) → ¬ T (same x.0 l) → ¬ T (same k l) → find same l [] ≡ cond (same k l) (some (k, v)) (find same l (x ∷ []))
-  unfolding find
-  nothing_says l f g = sym (silent l f) ∙ unlike (same k l) (some (k, v)) (find same l (x ∷ [])) g
+  nothing_says : (l : K) → ¬ T (same x.0 l) → ¬ T (same k l) → find_pair same l [] ≡ cond (same k l) (some (k, v)) (find_pair same l (x ∷ []))
+  unfolding find_pair
+  nothing_says l f g = sym (silent l f) ∙ unlike (same k l) (some (k, v)) (find_pair same l (x ∷ [])) g
 
-  new_says : (l : K) → ¬ T (same x.0 l) → find same l ((k, v) ∷ []) ≡ cond (same k l) (some (k, v)) (find same l (x ∷ []))
-  unfolding find
+  new_says : (l : K) → ¬ T (same x.0 l) → find_pair same l ((k, v) ∷ []) ≡ cond (same k l) (some (k, v)) (find_pair same l (x ∷ []))
+  unfolding find_pair
   new_says l f = ap (cond (same k l) (some (k, v))) (sym (silent l f))
 
-  list_says : (l : K) → find same l (x ∷ (k, v) ∷ []) ≡ cond (same k l) (some (k, v)) (find same l (x ∷ []))
+  list_says : (l : K) → find_pair same l (x ∷ (k, v) ∷ []) ≡ cond (same k l) (some (k, v)) (find_pair same l (x ∷ []))
   list_says l = find_last same hash laws k v l (x ∷ []) (λ y j t. apart (rw (in_one y x j) at t))
 
   -- A search in the chain finds what a put should leave.
@@ -170,7 +171,7 @@ module _ {K : Type 0} (same : K → K → Bool) (hash : K → ℕ) (chunk : ℕ 
   chain_comes i new (Chain.ends i' d n bs le e ne a b o) l = go (last i n bs e a b o (chunk (hash l) i))
     where
       go : Last i (chunk (hash l) i) (face m.pairs (main m n) (chunk (hash l) i)) → Comes l i ((d, n) ∷ [])
-      go (old_pair h w) = record { at = x ∷ []; way = stops (omega arith) w; says = unlike (same k l) (some (k, v)) (find same l (x ∷ [])) (unlike_k l i (λ g. ne (sym h ∙ g))) }
+      go (old_pair h w) = record { at = x ∷ []; way = stops (omega arith) w; says = unlike (same k l) (some (k, v)) (find_pair same l (x ∷ [])) (unlike_k l i (λ g. ne (sym h ∙ g))) }
       go (new_pair h w) = record { at = (k, v) ∷ []; way = stops (omega arith) w; says = new_says l (unlike_x l i (λ g. ne (sym g ∙ h))) }
       go (bare h s w) = record { at = []; way = stops (omega arith) w; says = nothing_says l (unlike_x l i h) (unlike_k l i s) }
   chain_comes i new (Chain.ends_list i' d n le e) l = record { at = x ∷ (k, v) ∷ []; way = stops (omega arith) (list_face n e (chunk (hash l) i)); says = list_says l }

@@ -9,8 +9,9 @@ use native.Mathlib.Omega.{arith}
 use native.Mathlib.Decide.{ℕ_discrete}
 use lib.ListN.{length, get_or, length-set}
 use lib.Seq.{get_or-set_same, get_or-set_other}
-use Rattle.machine.specs.Tree.{Level, Spot, stands, walk, lookup, In, nth}
+use Rattle.machine.specs.Tree.{Level, Spot, stands, walk, In, nth}
 use Rattle.machine.specs.Machine.{Branch, nothing, Main, node, tomb, many, IsTomb, IsFlat, HasPair, Mem, spot, face, word, main, view, key, Seat, idle, read, swap, parent, clean, path, Expects, MakesMain, MakesPair, MakesCell, swung}
+use Rattle.machine.specs.Pairs.{lookup_pair}
 use Rattle.machine.proofs.Walk.{no_some, walk_on}
 use Rattle.machine.proofs.Ready.{Ready, ready_back, ready_new, ready_on, ready_one, ready_placed, ready_effect}
 use Rattle.machine.proofs.Inv.{MainFree, PairFree, At, PathOK, Does, Same, tspot, cells, faces, Pend, SeatOK, Shape}
@@ -134,7 +135,7 @@ module _ {K : Type 0} (same : K → K → Bool) (hash : K → ℕ) (chunk : ℕ 
   onward = ready_on same hash chunk R (view m) (view m') (hash k) (length cs) c td (tspot same hash chunk m td) (cells new) (faces m new) shape.one shape.low reached view_there Flat Flat' flatly dead free once new_faces new_flats ready
 
   -- The swap does to every key's lookup what it should.
-  pub effect : (l : K) → R l (lookup same hash chunk (view m) l) (lookup same hash chunk (view m') l)
+  pub effect : (l : K) → R l (lookup_pair same hash chunk (view m) l) (lookup_pair same hash chunk (view m') l)
   effect = ready_effect same hash chunk R (view m) (view m') (hash k) (length cs) c td (tspot same hash chunk m td) (cells new) (faces m new) shape.one shape.low reached view_there Flat Flat' flatly dead free once new_faces new_flats ready
 
   -- The tree is as it should be.

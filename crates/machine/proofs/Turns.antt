@@ -10,11 +10,12 @@ use native.Mathlib.Decide.{ℕ_discrete}
 use lib.Dec.{T}
 use lib.ListN.{length, get_or, set}
 use lib.Seq.{get_or-set_same, get_or-set_other}
-use Rattle.machine.specs.Tree.{stands, on, walk, seek, find, lookup, In, here, later, nth}
-use Rattle.machine.specs.Machine.{Main, tomb, IsTomb, Mem, word, main, view, Op, get, put, renew, cut, cutting, climb, key, plain, Seat, idle, read, swap, parent, clean, path, State, seat, Expects, MakesMain, MakesPair, MakesCell, CellInUse, Fresh, MainInUse, PairInUse, Alike, seated, moved, swung, Prepares, Cleans, Moves, value, worth, Entry, gives, Step, after, says, replay, Plain, Rising, add, Formatted, Runs, formatted, then}
-use Rattle.machine.specs.Claim.{Stands}
+use Rattle.machine.specs.Tree.{stands, on, walk, find, In, here, later, nth}
+use Rattle.machine.specs.Machine.{Main, tomb, IsTomb, Mem, word, main, view, Op, get, put, renew, cut, cutting, climb, key, plain, Seat, idle, read, swap, parent, clean, path, State, seat, Expects, MakesMain, MakesPair, MakesCell, CellInUse, Fresh, MainInUse, PairInUse, Alike, seated, moved, swung, Prepares, Cleans, Moves, value, Entry, gives, Step, Rising, add, Formatted, Runs, formatted, then}
+use Rattle.machine.specs.Pairs.{seek_pair, find_pair, lookup_pair, worth, after_pair, says_pair, replay_pair, PlainPair, StandsPair}
 use Rattle.machine.proofs.Laws.{Laws}
 use Rattle.machine.proofs.Walk.{no_some, walk_on, walk_back, root_is}
+use Rattle.machine.proofs.Worth.{find_worth, none_pair}
 use Rattle.machine.proofs.Effect.{stop, lookup_ends}
 use Rattle.machine.proofs.Graft.{clash}
 use Rattle.machine.proofs.Inv.{MainFree, PathOK, Does, Same, Pend, SeatOK, Seats, Inv}
@@ -104,8 +105,8 @@ module _ {K : Type 0} (same : K → K → Bool) (hash : K → ℕ) (chunk : ℕ 
 
   -- A log stands on where no lookup changes.
   same_log : (es : List (Entry K)) (s s' : State K) → s.ticks ≤ s'.ticks
-      → ((k : K) → lookup same hash chunk (view s'.mem) k ≡ lookup same hash chunk (view s.mem) k)
-      → Stands same hash chunk es s → Stands same hash chunk es s'
+      → ((k : K) → lookup_pair same hash chunk (view s'.mem) k ≡ lookup_pair same hash chunk (view s.mem) k)
+      → StandsPair same hash chunk es s → StandsPair same hash chunk es s'
   same_log es s s' l f z = record {
     results = z.results;
     rising = rising_later s.ticks s'.ticks es l z.rising;
@@ -155,17 +156,17 @@ module _ {K : Type 0} (same : K → K → Bool) (hash : K → ℕ) (chunk : ℕ 
   -- A read that ends at pairs finds what the plain map holds.
   found : (es : List (Entry K)) (s : State K) (k : K) (c : ℕ) (cs : List ℕ) (ps : List (K × ℕ)) → Inv same hash chunk es s
       → PathOK same hash chunk s.mem k (c ∷ cs) → (IsTomb (main s.mem (word s.mem c)) → ⊥) → view s.mem c (chunk (hash k) (length cs)) ≡ stands ps
-      → find same k ps ≡ replay same es k
+      → find_pair same k ps ≡ replay_pair same es k
   found es s k c cs ps i p nt v =
       let w = is_reached same hash chunk s.mem k (length cs) c p.0 nt in
       sym (i.log.held k ∙ lookup_ends same hash chunk (view s.mem) k ps c (length cs) w (stop (i.shape.low (hash k) (length cs) c w) v))
 
   -- A get, and a cut that finds nothing.
   keeps_settled : (es : List (Entry K)) (s : State K) (t : ℕ) (e : Entry K) → t < length s.seats → e.stamp ≡ suc s.ticks
-      → e.result ≡ says e.op (replay same es)
-      → ((k : K) → after same e.op (replay same es) k ≡ lookup same hash chunk (view s.mem) k)
+      → e.result ≡ says_pair e.op (replay_pair same es)
+      → ((k : K) → after_pair same e.op (replay_pair same es) k ≡ lookup_pair same hash chunk (view s.mem) k)
       → Inv same hash chunk es s → Inv same hash chunk (e ∷ es) (seated s s.mem t idle)
-  unfolding Plain Rising replay
+  unfolding PlainPair Rising replay_pair
   keeps_settled es s t e l st r h i = record {
     shape = i.shape;
     seats = seats_quiet s.mem s.mem s.seats t idle quiet_idle l i.seats (λ u ne. i.seats.ok u) tt;
@@ -186,7 +187,7 @@ module _ {K : Type 0} (same : K → K → Bool) (hash : K → ℕ) (chunk : ℕ 
   solid_prepares (Prepares.adds k v bs p x l z slot) t = rw x at t
   solid_prepares (Prepares.replaces k v bs r p x xe l z slot y slot-p) t = rw xe at t
   solid_prepares (Prepares.extends k v ps p xe ab slot short) t = rw xe at t
-  solid_prepares (Prepares.alters k v ps qs p x xe slot ix tx np nq len ip names old kept) t = rw xe at t
+  solid_prepares (Prepares.alters k v ps qs p xe slot np nq len ip names old kept) t = rw xe at t
   solid_prepares (Prepares.shrinks k ps qs x xe ix tx np nq two len names old off kept) t = rw xe at t
   solid_prepares (Prepares.buries k ps r x z xe ix tx np ir slot iz nz all pos) t = rw xe at t
   solid_prepares (Prepares.drops k bs p x xe l z slot y stays) t = rw xe at t
@@ -313,10 +314,10 @@ module _ {K : Type 0} (same : K → K → Bool) (hash : K → ℕ) (chunk : ℕ 
 
   -- What the effect on the lookups says of the log.
   settles : (laws : Laws same hash) (o : Op K) (f g : K → Option (K × ℕ)) → ((l : K) → Does same hash chunk o l (f l) (g l))
-      → (gives o ≡ says (plain o) f) × ((l : K) → after same (plain o) f l ≡ g l)
+      → (gives o ≡ says_pair (plain o) f) × ((l : K) → after_pair same (plain o) f l ≡ g l)
   settles laws (get k) f g d = absurd (d k)
   settles laws (put k v) f g d = (refl, λ l. sym (d l))
-  settles laws (renew k v) f g d = (refl, λ l. sym (d l).0)
+  settles laws (renew k v) f g d = (refl, λ l. sym (d l))
   settles laws (cut k) f g d = absurd (d k)
   settles laws (cutting k v) f g d = let z = (d k).1 (laws.reflexive k) in (ap value (sym (ap worth z.1 ∙ ap some z.2)), λ l. sym (d l).0)
   settles laws (climb k) f g d = absurd (d k)
@@ -326,7 +327,7 @@ module _ {K : Type 0} (same : K → K → Bool) (hash : K → ℕ) (chunk : ℕ 
       → t < length s.seats → seat s t ≡ swap o c cs e n mp new → word s.mem c ≡ e → (x ≡ idle) ⊎ (x ≡ read (climb (key o)) (c ∷ cs))
       → Inv same hash chunk es s
       → Inv same hash chunk (record { stamp = suc s.ticks; op = plain o; result = gives o } ∷ es) (seated s (swung s.mem c n) t x)
-  unfolding Plain Rising replay
+  unfolding PlainPair Rising replay_pair
   keeps_swapped laws es s t o c cs e n mp new x l q holds nx i = record {
     shape = shape_swung same hash chunk s.mem i.shape (Does same hash chunk o) (key o) c cs e n mp none new pend holds;
     seats = swung_seats es s i t l (Does same hash chunk o) (key o) c cs e n mp none new pend holds makes mcells mpairs x z.1 z.0;
@@ -353,12 +354,12 @@ module _ {K : Type 0} (same : K → K → Bool) (hash : K → ℕ) (chunk : ℕ 
       z = next_ok (swung s.mem c n) x o c cs
           (swung_path es s i t l (Does same hash chunk o) (key o) c cs e n mp none new pend holds makes mcells mpairs (key o) (c ∷ cs) pend.path) nx
 
-      does : (j : K) → Does same hash chunk o j (replay same es j) (lookup same hash chunk (view (swung s.mem c n)) j)
+      does : (j : K) → Does same hash chunk o j (replay_pair same es j) (lookup_pair same hash chunk (view (swung s.mem c n)) j)
       does j = rw (i.log.held j) (effect same hash chunk s.mem i.shape (Does same hash chunk o) (key o) c cs e n mp none new pend holds j)
 
-      logged : (gives o ≡ says (plain o) (replay same es))
-          × ((j : K) → after same (plain o) (replay same es) j ≡ lookup same hash chunk (view (swung s.mem c n)) j)
-      logged = settles laws o (replay same es) (λ j. lookup same hash chunk (view (swung s.mem c n)) j) does
+      logged : (gives o ≡ says_pair (plain o) (replay_pair same es))
+          × ((j : K) → after_pair same (plain o) (replay_pair same es) j ≡ lookup_pair same hash chunk (view (swung s.mem c n)) j)
+      logged = settles laws o (replay_pair same es) (λ j. lookup_pair same hash chunk (view (swung s.mem c n)) j) does
 
   -- A cleaning swap says yes.
   keeps_cleaned : (es : List (Entry K)) (s : State K) (t : ℕ) (o : Op K) (b d c : ℕ) (cs : List ℕ) (e n : ℕ) (x : Seat K)
@@ -387,13 +388,13 @@ module _ {K : Type 0} (same : K → K → Bool) (hash : K → ℕ) (chunk : ℕ 
       bool_eq (same l k) (same l j) (λ x. laws.transitive l k j x t) (λ x. laws.transitive l j k x (laws.symmetric k j t))
 
   -- The plain map does not tell equal keys apart.
-  replay_same : Laws same hash → (es : List (Entry K)) (k j : K) → T (same k j) → replay same es k ≡ replay same es j
-  unfolding replay
+  replay_same : Laws same hash → (es : List (Entry K)) (k j : K) → T (same k j) → replay_pair same es k ≡ replay_pair same es j
+  unfolding replay_pair
   replay_same laws [] k j t = refl
   replay_same laws (e ∷ es) k j t = go e.op (replay_same laws es k j t)
     where
-      go : (o : Op K) → replay same es k ≡ replay same es j
-          → after same o (replay same es) k ≡ after same o (replay same es) j
+      go : (o : Op K) → replay_pair same es k ≡ replay_pair same es j
+          → after_pair same o (replay_pair same es) k ≡ after_pair same o (replay_pair same es) j
       go (get l) ih = ih
       go (put l v) ih = rw (same_cong laws l k j t, ih)
       go (renew l v) ih = ih
@@ -402,11 +403,11 @@ module _ {K : Type 0} (same : K → K → Bool) (hash : K → ℕ) (chunk : ℕ 
       go (climb l) ih = ih
 
   -- A cut of an absent key changes nothing.
-  absent : Laws same hash → (es : List (Entry K)) (k : K) → replay same es k ≡ none → (j : K)
-      → cond (same k j) none (replay same es j) ≡ replay same es j
+  absent : Laws same hash → (es : List (Entry K)) (k : K) → replay_pair same es k ≡ none → (j : K)
+      → cond (same k j) none (replay_pair same es j) ≡ replay_pair same es j
   absent laws es k a j = go (same k j) (λ t. sym (replay_same laws es k j t) ∙ a)
     where
-      go : (b : Bool) → (T b → replay same es j ≡ none) → cond b none (replay same es j) ≡ replay same es j
+      go : (b : Bool) → (T b → replay_pair same es j ≡ none) → cond b none (replay_pair same es j) ≡ replay_pair same es j
       go true f = sym (f tt)
       go false f = refl
 
@@ -415,10 +416,10 @@ module _ {K : Type 0} (same : K → K → Bool) (hash : K → ℕ) (chunk : ℕ 
       → Inv same hash chunk es s → Inv same hash chunk (add e es) s'
   keeps laws es s s' e (Step.moves t x n l le mv) i = keeps_moves es s t x n l le mv i
   keeps laws es s s' e (Step.got t k c cs ps l q nt v) i =
-      keeps_settled es s t (record { stamp = suc s.ticks; op = get k; result = value (worth (find same k ps)) }) l refl
-      (ap (λ o. value (worth o)) (found es s k c cs ps i (ok_at i.seats t (read (get k) (c ∷ cs)) q) nt v)) i.log.held i
+      keeps_settled es s t (record { stamp = suc s.ticks; op = get k; result = value (find same k ps) }) l refl
+      (ap value (find_worth same k ps ∙ ap worth (found es s k c cs ps i (ok_at i.seats t (read (get k) (c ∷ cs)) q) nt v))) i.log.held i
   keeps laws es s s' e (Step.lacks t k c cs ps l q nt v f) i =
-      let a : replay same es k ≡ none = sym (found es s k c cs ps i (ok_at i.seats t (read (cut k) (c ∷ cs)) q) nt v) ∙ f in
+      let a : replay_pair same es k ≡ none = sym (found es s k c cs ps i (ok_at i.seats t (read (cut k) (c ∷ cs)) q) nt v) ∙ none_pair same k ps f in
       keeps_settled es s t (record { stamp = suc s.ticks; op = cut k; result = value none }) l refl (ap (λ o. value (worth o)) (sym a))
       (λ j. absent laws es k a j ∙ i.log.held j) i
   keeps laws es s s' e (Step.prepared t o c cs n mp new m l q al un up fr pr) i = keeps_prepared laws es s i m al n un t o c cs mp new l q up fr pr
@@ -428,7 +429,7 @@ module _ {K : Type 0} (same : K → K → Bool) (hash : K → ℕ) (chunk : ℕ 
 
   -- It holds at the start.
   pub begins : (s : State K) → Formatted s → Inv same hash chunk [] s
-  unfolding Plain Rising replay lookup seek view find walk
+  unfolding PlainPair Rising replay_pair lookup_pair seek_pair view find_pair walk
   begins s f = record {
     shape = record {
       one = record { index = λ h g i j c v w. (at_root h i c v).0 ∙ sym (at_root g j c w).0; chunks = λ h g i j c v w q l. absurd (let z = (at_root h i c v).0 in omega arith) };
@@ -468,5 +469,5 @@ module _ {K : Type 0} (same : K → K → Bool) (hash : K → ℕ) (chunk : ℕ 
   always laws es s (Runs.then {es = fs} {s = r} {e = e} run st) = keeps laws fs r s e st (always laws fs r run)
 
   -- The log of every run stands.
-  pub main_theorem : Laws same hash → (es : List (Entry K)) (s : State K) → Runs same hash chunk es s → Stands same hash chunk es s
+  pub main_theorem : Laws same hash → (es : List (Entry K)) (s : State K) → Runs same hash chunk es s → StandsPair same hash chunk es s
   main_theorem laws es s run = (always laws es s run).log

@@ -7,7 +7,8 @@ use mathlib.Core.Logic.{◌≢◌}
 use Prim.Native.Nat.{ℕ, zero, suc, ◌+◌, ◌-◌, ◌<◌, ◌≤◌}
 use native.Mathlib.Omega.{arith}
 use native.Mathlib.Decide.{ℕ_discrete}
-use Rattle.machine.specs.Tree.{Spot, stands, on, Tree, kid, into, Agree, walk, find, answer, seek, lookup, Prefixed}
+use Rattle.machine.specs.Tree.{Spot, stands, on, Tree, kid, into, Agree, walk, Prefixed}
+use Rattle.machine.specs.Pairs.{find_pair, answer_pair, seek_pair, lookup_pair}
 
 pub no_some : {A : Type 0} {x : A} → none ≡ some x → ⊥
 no_some e = let w : ◌≡◌ {A = ℕ} 0 1 = cc in omega arith
@@ -84,37 +85,37 @@ agree? chunk h g (suc n) = go (agree? chunk h g n) (ℕ_discrete (chunk h n) (ch
 
 module _ {K : Type 0} (same : K → K → Bool) (hash : K → ℕ) (chunk : ℕ → ℕ → ℕ) where
   -- An answer rests only on what comes of the cell that is named.
-  answer_ext : (k : K) (s : Spot K) (f g : ℕ → Option (K × ℕ)) → ((d : ℕ) → s ≡ on d → f d ≡ g d) → answer same k s f ≡ answer same k s g
+  answer_ext : (k : K) (s : Spot K) (f g : ℕ → Option (K × ℕ)) → ((d : ℕ) → s ≡ on d → f d ≡ g d) → answer_pair same k s f ≡ answer_pair same k s g
   answer_ext k (stands ps) f g e = refl
   answer_ext k (on c) f g e = e c refl
 
   -- The search from a cell is the same where the cells from it on show the same along the hash.
   pub seek_frame : (M N : Tree K) (k : K) (n i c : ℕ) → walk chunk M (hash k) i ≡ some c
       → ((j d : ℕ) → i ≤ j → walk chunk M (hash k) j ≡ some d → N d (chunk (hash k) j) ≡ M d (chunk (hash k) j))
-      → seek same hash chunk N k n i c ≡ seek same hash chunk M k n i c
-  unfolding seek
+      → seek_pair same hash chunk N k n i c ≡ seek_pair same hash chunk M k n i c
+  unfolding seek_pair
   seek_frame M N k zero i c w f = rw (f i c (omega arith) w)
   seek_frame M N k (suc n) i c w f =
       rw (f i c (omega arith) w)
-      (answer_ext k (M c (chunk (hash k) i)) (λ d. seek same hash chunk N k n (suc i) d) (λ d. seek same hash chunk M k n (suc i) d)
+      (answer_ext k (M c (chunk (hash k) i)) (λ d. seek_pair same hash chunk N k n (suc i) d) (λ d. seek_pair same hash chunk M k n (suc i) d)
       (λ d e. seek_frame M N k n (suc i) d (walk_on chunk M (hash k) i c d w e) (λ j d l. f j d (omega arith))))
 
   -- A search goes on in the cell that is named.
   pub seek_on : (M : Tree K) (k : K) (n i c d : ℕ) → M c (chunk (hash k) i) ≡ on d
-      → seek same hash chunk M k (suc n) i c ≡ seek same hash chunk M k n (suc i) d
-  unfolding seek
+      → seek_pair same hash chunk M k (suc n) i c ≡ seek_pair same hash chunk M k n (suc i) d
+  unfolding seek_pair
   seek_on M k n i c d e = rw e
 
   -- A search ends where pairs stand.
   pub seek_at : (M : Tree K) (k : K) (n i c : ℕ) (ps : List (K × ℕ)) → M c (chunk (hash k) i) ≡ stands ps
-      → seek same hash chunk M k n i c ≡ find same k ps
-  unfolding seek
+      → seek_pair same hash chunk M k n i c ≡ find_pair same k ps
+  unfolding seek_pair
   seek_at M k zero i c ps e = rw e
   seek_at M k (suc n) i c ps e = rw e
 
   -- A search from the root comes to each cell of the walk.
   seek_walk : (M : Tree K) (k : K) (n m i c : ℕ) → n ≡ i + m → walk chunk M (hash k) i ≡ some c
-      → seek same hash chunk M k n 0 0 ≡ seek same hash chunk M k m i c
+      → seek_pair same hash chunk M k n 0 0 ≡ seek_pair same hash chunk M k m i c
   seek_walk M k n m zero c e w = let p : 0 ≡ c = root_is chunk M (hash k) c w in let q : n ≡ m = omega arith in rw (← p, q)
   seek_walk M k n m (suc i) c e w =
       let b = walk_back chunk M (hash k) i c w in
@@ -122,8 +123,8 @@ module _ {K : Type 0} (same : K → K → Bool) (hash : K → ℕ) (chunk : ℕ 
 
   -- So does a lookup.
   pub lookup_walk : (M : Tree K) (k : K) (i c : ℕ) → i ≤ 7 → walk chunk M (hash k) i ≡ some c
-      → lookup same hash chunk M k ≡ seek same hash chunk M k (7 - i) i c
-  unfolding lookup
+      → lookup_pair same hash chunk M k ≡ seek_pair same hash chunk M k (7 - i) i c
+  unfolding lookup_pair
   lookup_walk M k i c l w = seek_walk M k 7 (7 - i) i c (omega arith) w
 
   -- From here on N is M but for the cell c, which M reaches at index a along h₀.
@@ -149,13 +150,13 @@ module _ {K : Type 0} (same : K → K → Bool) (hash : K → ℕ) (chunk : ℕ 
     swap_walk_here h ag = swap_walk_before h a (omega arith) ∙ walk_agree chunk M h h₀ a ag ∙ reached
 
     -- The lookup of a key whose hash does not agree is as before.
-    pub swap_lookup_apart : (k : K) → ¬ Agree chunk (hash k) h₀ a → lookup same hash chunk N k ≡ lookup same hash chunk M k
-    unfolding lookup walk
+    pub swap_lookup_apart : (k : K) → ¬ Agree chunk (hash k) h₀ a → lookup_pair same hash chunk N k ≡ lookup_pair same hash chunk M k
+    unfolding lookup_pair walk
     swap_lookup_apart k na = seek_frame M N k 7 0 0 refl (λ j d l w. but d (apart (hash k) na j d w) (chunk (hash k) j))
 
     -- So is that of a key at whose chunk c shows the same.
-    pub swap_lookup_kept : (k : K) → N c (chunk (hash k) a) ≡ M c (chunk (hash k) a) → lookup same hash chunk N k ≡ lookup same hash chunk M k
-    unfolding lookup walk
+    pub swap_lookup_kept : (k : K) → N c (chunk (hash k) a) ≡ M c (chunk (hash k) a) → lookup_pair same hash chunk N k ≡ lookup_pair same hash chunk M k
+    unfolding lookup_pair walk
     swap_lookup_kept k kept = seek_frame M N k 7 0 0 refl (λ j d l w. go j d w (ℕ_discrete j a) (ℕ_discrete d c))
       where
         go : (j d : ℕ) → walk chunk M (hash k) j ≡ some d → Dec (j ≡ a) → Dec (d ≡ c) → N d (chunk (hash k) j) ≡ M d (chunk (hash k) j)

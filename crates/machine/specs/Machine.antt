@@ -241,31 +241,26 @@ gives (cut k) = value none
 gives (cutting k v) = value (some v)
 gives (climb k) = value none
 
--- The value of a pair, if there is one.
-abbrev pub worth : {K : Type 0} → Option (K × ℕ) → Option ℕ
-worth none = none
-worth (some x) = some x.1
-
--- The plain map, as the pair under each key, after a call. Only calls as they were opened stand in a log.
-abbrev pub after : {K : Type 0} → (K → K → Bool) → Op K → (K → Option (K × ℕ)) → K → Option (K × ℕ)
+-- The plain map after a call. Only calls as they were opened stand in a log.
+abbrev pub after : {K : Type 0} → (K → K → Bool) → Op K → (K → Option ℕ) → K → Option ℕ
 after same (get l) f k = f k
-after same (put l v) f k = cond (same l k) (some (l, v)) (f k)
+after same (put l v) f k = cond (same l k) (some v) (f k)
 after same (renew l v) f k = f k
 after same (cut l) f k = cond (same l k) none (f k)
 after same (cutting l v) f k = f k
 after same (climb l) f k = f k
 
 -- The plain map after all calls of a log, of which the newest stands first.
-unfoldable pub replay : {K : Type 0} → (K → K → Bool) → List (Entry K) → K → Option (K × ℕ)
+unfoldable pub replay : {K : Type 0} → (K → K → Bool) → List (Entry K) → K → Option ℕ
 replay same [] k = none
 replay same (e ∷ es) k = after same e.op (replay same es) k
 
 -- The result that the plain map gives a call.
-abbrev pub says : {K : Type 0} → Op K → (K → Option (K × ℕ)) → Result
-says (get k) f = value (worth (f k))
+abbrev pub says : {K : Type 0} → Op K → (K → Option ℕ) → Result
+says (get k) f = value (f k)
 says (put k v) f = stored
 says (renew k v) f = stored
-says (cut k) f = value (worth (f k))
+says (cut k) f = value (f k)
 says (cutting k v) f = stored
 says (climb k) f = stored
 
@@ -328,7 +323,7 @@ module _ {K : Type 0} (same : K → K → Bool) (hash : K → ℕ) (chunk : ℕ 
     extends : (k : K) (v : ℕ) (ps : List ℕ) (p : ℕ) → X ≡ many ps → find same k (gather m.pairs ps) ≡ none → nth m.pairs p ≡ some (k, v) → length ps < 32
         → Prepares m X a (put k v) (many (ps ++ (p ∷ []))) (some p) []
     -- A put replaces the pair of an equal key in a list; the other members stay, in any order.
-    alters : (k : K) (v : ℕ) (ps qs : List ℕ) (p : ℕ) (x : K × ℕ) → X ≡ many ps → nth m.pairs p ≡ some (k, v) → In x (gather m.pairs ps) → T (same x.0 k)
+    alters : (k : K) (v : ℕ) (ps qs : List ℕ) (p : ℕ) → X ≡ many ps → nth m.pairs p ≡ some (k, v)
         → NoTwice same (gather m.pairs ps) → NoTwice same (gather m.pairs qs) → length qs ≡ length ps
         → In p qs → ((r : ℕ) → In r qs → In r ps ⊎ (p ≡ r))
         → ((y : K × ℕ) → In y (gather m.pairs qs) → ¬ T (same y.0 k) → In y (gather m.pairs ps))
@@ -399,7 +394,7 @@ module _ {K : Type 0} (same : K → K → Bool) (hash : K → ℕ) (chunk : ℕ 
     -- A get ends at pairs.
     got : (t : ℕ) (k : K) (c : ℕ) (cs : List ℕ) (ps : List (K × ℕ)) → t < length s.seats → seat s t ≡ read (get k) (c ∷ cs)
         → (IsTomb (main s.mem (word s.mem c)) → ⊥) → view s.mem c (chunk (hash k) (length cs)) ≡ stands ps
-        → Step s (some (record { stamp = suc s.ticks; op = get k; result = value (worth (find same k ps)) })) (seated s s.mem t idle)
+        → Step s (some (record { stamp = suc s.ticks; op = get k; result = value (find same k ps) })) (seated s s.mem t idle)
     -- A cut ends where its key is not.
     lacks : (t : ℕ) (k : K) (c : ℕ) (cs : List ℕ) (ps : List (K × ℕ)) → t < length s.seats → seat s t ≡ read (cut k) (c ∷ cs)
         → (IsTomb (main s.mem (word s.mem c)) → ⊥) → view s.mem c (chunk (hash k) (length cs)) ≡ stands ps → find same k ps ≡ none

@@ -30,24 +30,24 @@ unfoldable pub walk : {K : Type 0} → (ℕ → ℕ → ℕ) → Tree K → ℕ 
 walk chunk M h zero = some 0
 walk chunk M h (suc i) = into M (walk chunk M h i) (chunk h i)
 
--- The first pair of an equal key.
-unfoldable pub find : {K : Type 0} → (K → K → Bool) → K → List (K × ℕ) → Option (K × ℕ)
+-- The value of the first pair of an equal key.
+unfoldable pub find : {K : Type 0} → (K → K → Bool) → K → List (K × ℕ) → Option ℕ
 find same k [] = none
-find same k (p ∷ ps) = cond (same p.0 k) (some p) (find same k ps)
+find same k (p ∷ ps) = cond (same p.0 k) (some p.1) (find same k ps)
 
 -- The answer at a spot: what its pairs say, or what comes of the next cell.
-abbrev pub answer : {K : Type 0} → (K → K → Bool) → K → Spot K → (ℕ → Option (K × ℕ)) → Option (K × ℕ)
+abbrev pub answer : {K : Type 0} → (K → K → Bool) → K → Spot K → (ℕ → Option ℕ) → Option ℕ
 answer same k (stands ps) f = find same k ps
 answer same k (on c) f = f c
 
 module _ {K : Type 0} (same : K → K → Bool) (hash : K → ℕ) (chunk : ℕ → ℕ → ℕ) where
-  -- The pair under the key k from the cell c at index i on, with n more indexes to go.
-  unfoldable pub seek : Tree K → K → ℕ → ℕ → ℕ → Option (K × ℕ)
+  -- The value under the key k from the cell c at index i on, with n more indexes to go.
+  unfoldable pub seek : Tree K → K → ℕ → ℕ → ℕ → Option ℕ
   seek M k zero i c = answer same k (M c (chunk (hash k) i)) (λ d. none)
   seek M k (suc n) i c = answer same k (M c (chunk (hash k) i)) (λ d. seek M k n (suc i) d)
 
-  -- The pair under a key, from the root on; index 7 is the last.
-  unfoldable pub lookup : Tree K → K → Option (K × ℕ)
+  -- The value under a key, from the root on; index 7 is the last.
+  unfoldable pub lookup : Tree K → K → Option ℕ
   lookup M k = seek M k 7 0 0
 
 -- A reached cell stands for one prefix: it has one index, and all hashes that lead to it have the same chunks before that index.

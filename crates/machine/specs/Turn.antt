@@ -2,7 +2,7 @@
 use Rattle.std.specs.Prelude.{◌≡◌, Bool, true, false, List, [], ◌∷◌, ℕ, suc, ◌<◌, ◌≤◌, length, get_or}
 use Rattle.std.proofs.Math.Option.{Option, none, some}
 use Rattle.machine.specs.Tree.{stands, on, walk, find, In}
-use Rattle.machine.specs.Machine.{tomb, IsTomb, Mem, word, main, view, Op, get, put, renew, cut, cutting, climb, key, plain, Seat, idle, read, swap, parent, clean, path, State, seat, MainInUse, PairInUse, Alike, Fresh, Prepares, Cleans, seated, moved, swung, value, worth, Entry, gives, add, Formatted}
+use Rattle.machine.specs.Machine.{tomb, IsTomb, Mem, word, main, view, Op, get, put, renew, cut, cutting, climb, key, plain, Seat, idle, read, swap, parent, clean, path, State, seat, MainInUse, PairInUse, Alike, Fresh, Prepares, Cleans, seated, moved, swung, value, Entry, gives, add, Formatted}
 
 -- A call as it is opened.
 abbrev pub IsPlain : {K : Type 0} → Op K → Type 0
@@ -102,7 +102,7 @@ module _ {K : Type 0} (same : K → K → Bool) (hash : K → ℕ) (chunk : ℕ 
     -- A get ends at pairs.
     got : (t : ℕ) (k : K) (c : ℕ) (cs : List ℕ) (ps : List (K × ℕ)) → t < length s.seats → seat s t ≡ read (get k) (c ∷ cs)
         → (IsTomb (main s.mem (word s.mem c)) → ⊥) → view s.mem c (chunk (hash k) (length cs)) ≡ stands ps
-        → Turn s (some (record { stamp = suc s.ticks; op = get k; result = value (worth (find same k ps)) })) (seated s s.mem t idle)
+        → Turn s (some (record { stamp = suc s.ticks; op = get k; result = value (find same k ps) })) (seated s s.mem t idle)
     -- A cut ends where its key is not.
     lacks : (t : ℕ) (k : K) (c : ℕ) (cs : List ℕ) (ps : List (K × ℕ)) → t < length s.seats → seat s t ≡ read (cut k) (c ∷ cs)
         → (IsTomb (main s.mem (word s.mem c)) → ⊥) → view s.mem c (chunk (hash k) (length cs)) ≡ stands ps → find same k ps ≡ none

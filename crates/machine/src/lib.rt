@@ -3,12 +3,14 @@
 
 ghost use Rattle.machine.specs.AtRest.{AlwaysOwned, AlwaysRuled, AtRest, LogStands, ReachedAlong};
 ghost use Rattle.machine.specs.Claim.{Claim};
+ghost use Rattle.machine.specs.Pairs.{PairClaim};
 
 use keys::Key;
 
-// The log of every run is that of a plain map.
+// The log of every run is that of a plain map; so it is with the pairs in place of their values.
 pub fn machine_stands<K: Key>() -> u8
-    ensures { Claim K.Key.same K.Key.hash }
+    ensures values { Claim K.Key.same K.Key.hash }
+    ensures pairs { PairClaim K.Key.same K.Key.hash }
 {
     0
 }

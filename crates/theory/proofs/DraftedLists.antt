@@ -9,6 +9,8 @@ use Rattle.keys.specs.Laws.{KeyLaws}
 use Rattle.keys.specs.Routes.{chunk_at}
 use Rattle.machine.proofs.Laws.{Laws, laws_of}
 use Rattle.machine.proofs.Members.{in_one}
+use Rattle.machine.proofs.Worth.{find_worth}
+use Rattle.machine.specs.Pairs.{worth}
 use Rattle.machine.specs.Machine.{Mem, gather, tomb as tombed, many, put, renew, cutting, Prepares}
 use Rattle.machine.specs.Tree.{In, here, nth as placed, NoTwice, find}
 use Rattle.mains.proofs.Listings.{length_listed, unlisted_formed}
@@ -53,7 +55,7 @@ module _ {K : Type 0} (same : K → K → Bool) (hash : K → ℕ) (laws : Laws 
       let old = gathered m.pairs ps vs g in
       let new = gathered m.pairs (set ps i p) (set vs i (k, v)) (gathers_set m.pairs ps vs i p (k, v) e g) in
       let r = gathers_at m.pairs ps vs i x at g in
-      Prepares.alters k v ps (set ps i p) p x refl e listed_x t no_twice (subst (NoTwice same) (sym new) (set_no_twice same hash laws k vs i v x n at t)) (length-set ps i p)
+      Prepares.alters k v ps (set ps i p) p refl e no_twice (subst (NoTwice same) (sym new) (set_no_twice same hash laws k vs i v x n at t)) (length-set ps i p)
       (set_new ps i r.0 p r.1) (λ q j. set_in ps i p q j)
       (λ y j f. carry (sym old) (own y f (set_in vs i (k, v) y (carry new j))))
       (λ y j f. carry (sym new) (not_there y f (set vs i (k, v)) (set_kept vs i x (k, v) y at (carry old j))))
@@ -129,7 +131,7 @@ module _ {K : Type 0} (same : K → K → Bool) (hash : K → ℕ) (laws : KeyLa
       let long = length_listed l in
       subst (λ (qs : List ℕ). Prepares same hash chunk_at (shown_mem z) (many (listed l)) index (put k v) (many qs) (some p) []) (sym (shows_edits.appends l p formed.row room))
       (Prepares.extends k v (listed l) p refl
-      (subst (λ (us : List (K × ℕ)). find same k us ≡ none) (sym (gathered (shown_mem z).pairs (listed l) (map shown_pair ys) gathers)) (place_none same k ys lacks))
+      (subst (λ (us : List (K × ℕ)). find same k us ≡ none) (sym (gathered (shown_mem z).pairs (listed l) (map shown_pair ys) gathers)) (find_worth same k (map shown_pair ys) ∙ ap worth (place_none same k ys lacks)))
       ((shows_memory K).pair_at z p (record { key = k; value = v }) e) (omega (arith, long, room)))
 
   -- A put of a key that it has.

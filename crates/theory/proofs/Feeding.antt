@@ -4,7 +4,9 @@ use mathlib.Core.List.{Memᴰ}
 use mathlib.Core.Option.{Option as Maybe, none, some}
 use Rattle.std.proofs.lemmas.Bool.{both_ways, false≢true}
 use Rattle.keys.specs.Laws.{KeyLaws}
-use Rattle.machine.specs.Machine.{Result, value, worth, replay, after, says, Plain as LogPlain}
+use Rattle.machine.proofs.Worth.{replay_worth, plain_pair}
+use Rattle.machine.specs.Machine.{Result, value, replay}
+use Rattle.machine.specs.Pairs.{worth, after_pair, replay_pair, says_pair, PlainPair}
 use Rattle.rules.proofs.Mapping.{map_laws}
 use Rattle.rules.specs.PlainMap.{find, without, map_after, map_answer, found_by, removed_by, Unlike, MapLaws}
 use Rattle.rules.specs.Theorem.{StampedCall, fed, Plain}
@@ -13,7 +15,8 @@ use Rattle.rules.specs.declared.Ask.TheVariants.{Get, Put, Cut}
 use Rattle.rules.specs.declared.Outcome.{Outcome}
 use Rattle.rules.specs.declared.Outcome.TheVariants.{Found, Absent, Stored, Removed}
 use Rattle.rules.specs.declared.Pair.{Pair}
-use Rattle.theory.proofs.Fed.{asked, result_of, entries_of, fits, Fitting, maybe, pair_in, PairFor, Feeds}
+use Rattle.theory.specs.Fed.{PairFor, Feeds, asked, result_of, entries_of, fits, Fitting, maybe}
+use Rattle.theory.proofs.FedPairs.{pair_in, PairUnder, PairFeeds}
 
 -- Equal results have equal values.
 value_is : {a b : Maybe ℕ} → ◌≡◌ {A = Result} (value a) (value b) → a ≡ b
@@ -75,7 +78,7 @@ module _ {K : Type 0} (same : K → K → Bool) (hash : K → ℕ) (laws : KeyLa
 
   -- One call changes the map of the rules as it changes the machine's.
   held_after : (ask : Ask) (l k : K) (ys : List (Pair K)) (f : K → Maybe (K × ℕ)) → ((j : K) → pair_in same j ys ≡ f j)
-      → pair_in same k (map_after same ask l ys) ≡ after same (asked ask l) f k
+      → pair_in same k (map_after same ask l ys) ≡ after_pair same (asked ask l) f k
   unfolding pair_in
   held_after Get l k ys f e = e k
   held_after (Put v) l k ys f e = by (same l k) (pair_without l k ys)
@@ -85,14 +88,14 @@ module _ {K : Type 0} (same : K → K → Bool) (hash : K → ℕ) (laws : KeyLa
       by false q = q ∙ e k
   held_after Cut l k ys f e = pair_without l k ys ∙ ap (cond (same l k) none) (e k)
 
-  held : (calls : List (StampedCall K)) (k : K) → pair_in same k (fed same calls) ≡ replay same (entries_of calls) k
-  unfolding pair_in fed replay
+  held : (calls : List (StampedCall K)) (k : K) → pair_in same k (fed same calls) ≡ replay_pair same (entries_of calls) k
+  unfolding pair_in fed replay_pair
   held [] k = refl
-  held (c ∷ cs) k = held_after c.ask c.key k (fed same cs) (replay same (entries_of cs)) (λ j. held cs j)
+  held (c ∷ cs) k = held_after c.ask c.key k (fed same cs) (replay_pair same (entries_of cs)) (λ j. held cs j)
 
   -- An outcome that fits and is right by the machine's map is that of the map of the rules.
   answer_is : (ask : Ask) (r : Outcome) (k : K) (ys : List (Pair K)) (f : K → Maybe (K × ℕ)) → maybe (find same k ys) ≡ worth (f k) → fits ask r ≡ true
-      → result_of r ≡ says (asked ask k) f → r ≡ map_answer same ask k ys
+      → result_of r ≡ says_pair (asked ask k) f → r ≡ map_answer same ask k ys
   answer_is Get (Found u) k ys f e t q = ap found_by (maybe_is (Some u) (find same k ys) (value_is q ∙ sym e))
   answer_is Get Absent k ys f e t q = ap found_by (maybe_is None (find same k ys) (value_is q ∙ sym e))
   answer_is Get Stored k ys f e t q = absurd (false≢true t)
@@ -106,11 +109,11 @@ module _ {K : Type 0} (same : K → K → Bool) (hash : K → ℕ) (laws : KeyLa
   answer_is Cut Stored k ys f e t q = absurd (false≢true t)
   answer_is Cut (Removed u) k ys f e t q = ap removed_by (maybe_is (Some u) (find same k ys) (value_is q ∙ sym e))
 
-  plain : (calls : List (StampedCall K)) → Fitting calls → LogPlain same (entries_of calls) → Plain same calls
-  unfolding LogPlain Plain
+  plain : (calls : List (StampedCall K)) → Fitting calls → PlainPair same (entries_of calls) → Plain same calls
+  unfolding PlainPair Plain
   plain [] f p = tt
   plain (c ∷ cs) f p = (
-    answer_is c.ask c.result c.key (fed same cs) (replay same (entries_of cs)) (sym (worthy c.key (fed same cs)) ∙ ap worth (held cs c.key)) (f c (Memᴰ.head refl)) p.0,
+    answer_is c.ask c.result c.key (fed same cs) (replay_pair same (entries_of cs)) (sym (worthy c.key (fed same cs)) ∙ ap worth (held cs c.key)) (f c (Memᴰ.head refl)) p.0,
     plain cs (λ d m. f d (Memᴰ.tail m)) p.1,
   )
 
@@ -131,23 +134,48 @@ module _ {K : Type 0} (same : K → K → Bool) (hash : K → ℕ) (laws : KeyLa
       by false q n = n
 
   -- What is under a key is a pair of the map.
-  finds : (k : K) (v : K × ℕ) (ys : List (Pair K)) → pair_in same k ys ≡ some v → PairFor same ys k v
+  finds : (k : K) (v : K × ℕ) (ys : List (Pair K)) → pair_in same k ys ≡ some v → PairUnder same ys k v
   unfolding pair_in
   finds k v [] e = absurd (no_value e)
   finds k v (y ∷ ys) e = by (same y.key k) refl e (λ d. finds k v ys d)
     where
-      on : PairFor same ys k v → PairFor same (y ∷ ys) k v
+      on : PairUnder same ys k v → PairUnder same (y ∷ ys) k v
       on r = record { pair = r.pair; inside = Memᴰ.tail r.inside; equal = r.equal; shown = r.shown }
 
-      by : (t : Bool) → same y.key k ≡ t → cond t (some (y.key, y.value)) (pair_in same k ys) ≡ some v → (pair_in same k ys ≡ some v → PairFor same ys k v) → PairFor same (y ∷ ys) k v
+      by : (t : Bool) → same y.key k ≡ t → cond t (some (y.key, y.value)) (pair_in same k ys) ≡ some v → (pair_in same k ys ≡ some v → PairUnder same ys k v) → PairUnder same (y ∷ ys) k v
       by true q d below = record { pair = y; inside = Memᴰ.head refl; equal = q; shown = some_is d }
       by false q d below = on (below d)
 
-  pairs_said : (calls : List (StampedCall K)) (y : Pair K) → Memᴰ y (fed same calls) → replay same (entries_of calls) y.key ≡ some (y.key, y.value)
+  pairs_said : (calls : List (StampedCall K)) (y : Pair K) → Memᴰ y (fed same calls) → replay_pair same (entries_of calls) y.key ≡ some (y.key, y.value)
   pairs_said calls y m = sym (held calls y.key) ∙ (found y (fed same calls) (unlike calls) m)
 
-  said_pairs : (calls : List (StampedCall K)) (k : K) (v : K × ℕ) → replay same (entries_of calls) k ≡ some v → PairFor same (fed same calls) k v
+  said_pairs : (calls : List (StampedCall K)) (k : K) (v : K × ℕ) → replay_pair same (entries_of calls) k ≡ some v → PairUnder same (fed same calls) k v
   said_pairs calls k v e = finds k v (fed same calls) (held calls k ∙ e)
 
+  pub feeds_pair : PairFeeds same
+  feeds_pair = record { held = held; worthy = worthy; plain = plain; unlike = unlike; pairs_said = pairs_said; said_pairs = said_pairs }
+
+  -- The value under a key is that of the pair under it.
+  value_held : (calls : List (StampedCall K)) (k : K) → maybe (find same k (fed same calls)) ≡ replay same (entries_of calls) k
+  value_held calls k = sym (worthy k (fed same calls)) ∙ (ap worth (held calls k) ∙ sym (replay_worth same (entries_of calls) k))
+
+  -- What the log says under a key is the value of a pair of the map.
+  value_said : (calls : List (StampedCall K)) (k : K) (v : ℕ) → replay same (entries_of calls) k ≡ some v → PairFor same (fed same calls) k v
+  value_said calls k v e = by (replay_pair same (entries_of calls) k) refl (sym (replay_worth same (entries_of calls) k) ∙ e)
+    where
+      by : (o : Maybe (K × ℕ)) → replay_pair same (entries_of calls) k ≡ o → worth o ≡ some v → PairFor same (fed same calls) k v
+      by none q d = absurd (no_value d)
+      by (some x) q d =
+          let y = said_pairs calls k x q in
+          record { pair = y.pair; inside = y.inside; equal = y.equal; valued = ap (λ (u : K × ℕ). u.1) y.shown ∙ some_is d }
+
+  -- So the same holds of values.
   pub feeds : Feeds same
-  feeds = record { held = held; worthy = worthy; plain = plain; unlike = unlike; pairs_said = pairs_said; said_pairs = said_pairs }
+  feeds =
+      record {
+        held = value_held;
+        plain = λ calls f p. plain calls f (plain_pair same (entries_of calls) p);
+        unlike = unlike;
+        pairs_said = λ calls y m. replay_worth same (entries_of calls) y.key ∙ ap worth (pairs_said calls y m);
+        said_pairs = value_said;
+      }

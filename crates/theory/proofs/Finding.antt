@@ -4,8 +4,10 @@ use mathlib.Core.Option.{none, some}
 use Rattle.keys.proofs.Chunks.{chunk_below}
 use Rattle.keys.specs.Routes.{chunk_at}
 use Rattle.std.specs.List.{slice_get}
-use Rattle.machine.specs.Machine.{nothing, IsTomb, face, spot, lone, gather, worth}
+use Rattle.machine.specs.Machine.{nothing, IsTomb, face, spot, lone, gather}
 use Rattle.machine.specs.Tree.{Spot, stands, on, find}
+use Rattle.machine.proofs.Worth.{find_worth}
+use Rattle.machine.specs.Pairs.{worth, find_pair}
 use Rattle.mains.specs.Lists.{listed}
 use Rattle.mains.specs.Nodes.{branch_at}
 use Rattle.mains.specs.declared.Branch.{Branch}
@@ -37,13 +39,13 @@ module _ {K : Type 0} (same : K → K → Bool) (hash : K → ℕ) where
   second (Some z) = z.1
 
   -- A key that has a place among pairs is found, with its value.
-  place_worth : (k : K) (ys : List (Pair K)) (i v : ℕ) → place_of same k ys ≡ Some (i, v) → worth (find same k (map shown_pair ys)) ≡ some v
-  unfolding find
+  place_worth : (k : K) (ys : List (Pair K)) (i v : ℕ) → place_of same k ys ≡ Some (i, v) → worth (find_pair same k (map shown_pair ys)) ≡ some v
+  unfolding find_pair
   place_worth k [] i v e = none_some e
   place_worth k (y ∷ ys) i v e = by (same y.key k) e (place_of same k ys) refl (place_worth k ys)
     where
-      by : (b : Bool) → cond b (Some (0, y.value)) (later (place_of same k ys)) ≡ Some (i, v) → (o : Option (ℕ × ℕ)) → place_of same k ys ≡ o → ((i v : ℕ) → place_of same k ys ≡ Some (i, v) → worth (find same k (map shown_pair ys)) ≡ some v)
-          → worth (cond b (some (shown_pair y)) (find same k (map shown_pair ys))) ≡ some v
+      by : (b : Bool) → cond b (Some (0, y.value)) (later (place_of same k ys)) ≡ Some (i, v) → (o : Option (ℕ × ℕ)) → place_of same k ys ≡ o → ((i v : ℕ) → place_of same k ys ≡ Some (i, v) → worth (find_pair same k (map shown_pair ys)) ≡ some v)
+          → worth (cond b (some (shown_pair y)) (find_pair same k (map shown_pair ys))) ≡ some v
       by true e o q f = ap (λ u. some (second u)) e
       by false e None q f = none_some (sym (ap later q) ∙ e)
       by false e (Some z) q f =
@@ -66,14 +68,14 @@ module _ {K : Type 0} (same : K → K → Bool) (hash : K → ℕ) where
   pub lacks_find : (m : Memory K) (k : K) (index : ℕ) (y : Main) → Lacks same hash m k index y → (ps : List (K × ℕ)) × (face (shown_mem m).pairs (shown_main y) (chunk_at (hash k) index) ≡ stands ps) × (find same k ps ≡ none) × (IsTomb (shown_main y) → ⊥)
   unfolding find
   lacks_find m k index y (Lacks.bare n b) = ([], stand_none m k index n b, refl, λ t. t)
-  lacks_find m k index y (Lacks.other n p z b h e) = (shown_one z, shown_pair_lem m k index n p z b h, ap (λ c. cond c (some (z.key, z.value)) none) e, λ t. t)
-  lacks_find m k index y (Lacks.absent l ys h e) = (map shown_pair ys, ap stands (gather_shown m (listed l) ys h), place_none same k ys e, λ t. t)
+  lacks_find m k index y (Lacks.other n p z b h e) = (shown_one z, shown_pair_lem m k index n p z b h, ap (λ c. cond c (some z.value) none) e, λ t. t)
+  lacks_find m k index y (Lacks.absent l ys h e) = (map shown_pair ys, ap stands (gather_shown m (listed l) ys h), find_worth same k (map shown_pair ys) ∙ ap worth (place_none same k ys e), λ t. t)
 
   -- One that is there is found, with its value.
-  pub has_find : (m : Memory K) (k : K) (index v : ℕ) (y : Main) → Has same hash m k index y v → (ps : List (K × ℕ)) × (face (shown_mem m).pairs (shown_main y) (chunk_at (hash k) index) ≡ stands ps) × (worth (find same k ps) ≡ some v) × (IsTomb (shown_main y) → ⊥)
+  pub has_find : (m : Memory K) (k : K) (index v : ℕ) (y : Main) → Has same hash m k index y v → (ps : List (K × ℕ)) × (face (shown_mem m).pairs (shown_main y) (chunk_at (hash k) index) ≡ stands ps) × (find same k ps ≡ some v) × (IsTomb (shown_main y) → ⊥)
   unfolding find
-  has_find m k index v y (Has.branch n p z b h e) = (shown_one z, shown_pair_lem m k index n p z b h, ap (λ c. worth (cond c (some (z.key, z.value)) none)) e, λ t. t)
-  has_find m k index v y (Has.inside l ys i w h e) = (map shown_pair ys, ap stands (gather_shown m (listed l) ys h), place_worth k ys i w e, λ t. t)
+  has_find m k index v y (Has.branch n p z b h e) = (shown_one z, shown_pair_lem m k index n p z b h, ap (λ c. cond c (some z.value) none) e, λ t. t)
+  has_find m k index v y (Has.inside l ys i w h e) = (map shown_pair ys, ap stands (gather_shown m (listed l) ys h), find_worth same k (map shown_pair ys) ∙ place_worth k ys i w e, λ t. t)
 
   -- A node shows the cell that it names.
   pub cell_shown : (m : Memory K) (k : K) (index : ℕ) (y : Node) (d : ℕ) → branch_at y (chunk_at (hash k) index) ≡ Some (cell d) → face (shown_mem m).pairs (shown_main (node y)) (chunk_at (hash k) index) ≡ on d

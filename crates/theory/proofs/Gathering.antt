@@ -7,7 +7,8 @@ use Rattle.std.proofs.lemmas.Bool.{and_parts, or_parts, both_ways, not-true}
 use Rattle.machine.proofs.Laws.{Laws, holds, is_true}
 use Rattle.machine.proofs.Walk.{no_some}
 use Rattle.machine.specs.Machine.{gather}
-use Rattle.machine.specs.Tree.{In, nth as placed, NoTwice, find}
+use Rattle.machine.specs.Tree.{In, nth as placed, NoTwice}
+use Rattle.machine.specs.Pairs.{find_pair}
 use Rattle.rules.proofs.Naming.{none_some}
 use Rattle.rules.specs.Memory.{Memory}
 use Rattle.rules.specs.Sound.{with_pair, pairs_at, among, alike}
@@ -94,13 +95,13 @@ module _ {K : Type 0} (same : K → K → Bool) (hash : K → ℕ) where
 
 module _ {K : Type 0} (same : K → K → Bool) (k : K) where
   -- A key without a place is not found.
-  pub place_none : (ys : List (Pair K)) → place_of same k ys ≡ None → find same k (map shown_pair ys) ≡ none
-  unfolding find
+  pub place_none : (ys : List (Pair K)) → place_of same k ys ≡ None → find_pair same k (map shown_pair ys) ≡ none
+  unfolding find_pair
   place_none [] e = refl
   place_none (y ∷ ys) e = by (same y.key k) (place_of same k ys) e (place_none ys)
     where
-      by : (b : Bool) (o : Option (ℕ × ℕ)) → cond b (Some (0, y.value)) (further o) ≡ None → (o ≡ None → find same k (map shown_pair ys) ≡ none)
-          → cond b (some (shown_pair y)) (find same k (map shown_pair ys)) ≡ none
+      by : (b : Bool) (o : Option (ℕ × ℕ)) → cond b (Some (0, y.value)) (further o) ≡ None → (o ≡ None → find_pair same k (map shown_pair ys) ≡ none)
+          → cond b (some (shown_pair y)) (find_pair same k (map shown_pair ys)) ≡ none
       by true o f below = absurd (none_some (sym f))
       by false None f below = below refl
       by false (Some i) f below = absurd (none_some (sym f))

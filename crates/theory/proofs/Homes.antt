@@ -11,7 +11,8 @@ use Rattle.machine.proofs.Rest.{below, walk_earlier}
 use Rattle.machine.proofs.Walk.{no_some, some_is, walk_on, walk_back, walk_agree}
 use Rattle.machine.specs.Machine.{Main, node, tomb, many, IsFlat, HasPair, Mem, face, word, main, view}
 use Rattle.machine.specs.Rules.{Ruled}
-use Rattle.machine.specs.Tree.{Spot, stands, on, Tree, walk, find, answer, seek, lookup, In, here, later, nth}
+use Rattle.machine.specs.Tree.{Spot, stands, on, Tree, walk, In, here, later, nth}
+use Rattle.machine.specs.Pairs.{find_pair, answer_pair, seek_pair, lookup_pair}
 use Rattle.theory.proofs.Faces.{NamesAt, named_at, names_shown, shown_names, shown_once, one_place}
 
 -- What a cell shows is what its main shows.
@@ -52,34 +53,34 @@ module _ {K : Type 0} (same : K → K → Bool) (hash : K → ℕ) (chunk : ℕ 
     all : List (K × ℕ)
     led : walk chunk M (hash k) index ≡ some cell
     shows : M cell (chunk (hash k) index) ≡ stands all
-    says : find same k all ≡ some v
+    says : find_pair same k all ≡ some v
 
-  seek_ending : (M : Tree K) (k : K) (v : K × ℕ) (n i c : ℕ) → walk chunk M (hash k) i ≡ some c → seek same hash chunk M k n i c ≡ some v → Ending M k v
-  unfolding seek
+  seek_ending : (M : Tree K) (k : K) (v : K × ℕ) (n i c : ℕ) → walk chunk M (hash k) i ≡ some c → seek_pair same hash chunk M k n i c ≡ some v → Ending M k v
+  unfolding seek_pair
   seek_ending M k v zero i c w e = by (M c (chunk (hash k) i)) refl e
     where
-      by : (s : Spot K) → M c (chunk (hash k) i) ≡ s → answer same k s (λ d. none) ≡ some v → Ending M k v
+      by : (s : Spot K) → M c (chunk (hash k) i) ≡ s → answer_pair same k s (λ d. none) ≡ some v → Ending M k v
       by (stands ps) z e = record { index = i; cell = c; all = ps; led = w; shows = z; says = e }
       by (on d) z e = absurd (no_some e)
   seek_ending M k v (suc n) i c w e =
       by (M c (chunk (hash k) i)) refl e (λ d z. seek_ending M k v n (suc i) d (walk_on chunk M (hash k) i c d w z))
     where
-      by : (s : Spot K) → M c (chunk (hash k) i) ≡ s → answer same k s (λ d. seek same hash chunk M k n (suc i) d) ≡ some v
-          → ((d : ℕ) → M c (chunk (hash k) i) ≡ on d → seek same hash chunk M k n (suc i) d ≡ some v → Ending M k v) → Ending M k v
+      by : (s : Spot K) → M c (chunk (hash k) i) ≡ s → answer_pair same k s (λ d. seek_pair same hash chunk M k n (suc i) d) ≡ some v
+          → ((d : ℕ) → M c (chunk (hash k) i) ≡ on d → seek_pair same hash chunk M k n (suc i) d ≡ some v → Ending M k v) → Ending M k v
       by (stands ps) z e f = record { index = i; cell = c; all = ps; led = w; shows = z; says = e }
       by (on d) z e f = f d z e
 
-  lookup_ending : (M : Tree K) (k : K) (v : K × ℕ) → lookup same hash chunk M k ≡ some v → Ending M k v
-  unfolding lookup walk
+  lookup_ending : (M : Tree K) (k : K) (v : K × ℕ) → lookup_pair same hash chunk M k ≡ some v → Ending M k v
+  unfolding lookup_pair walk
   lookup_ending M k v e = seek_ending M k v 7 0 0 refl e
 
   -- What a list says of a key is a member.
-  find_member : (k : K) (v : K × ℕ) (ps : List (K × ℕ)) → find same k ps ≡ some v → In v ps × T (same v.0 k)
-  unfolding find
+  find_member : (k : K) (v : K × ℕ) (ps : List (K × ℕ)) → find_pair same k ps ≡ some v → In v ps × T (same v.0 k)
+  unfolding find_pair
   find_member k v [] e = absurd (no_some e)
   find_member k v (x ∷ ps) e = by (same x.0 k) refl e (λ d. find_member k v ps d)
     where
-      by : (b : Bool) → same x.0 k ≡ b → cond b (some x) (find same k ps) ≡ some v → (find same k ps ≡ some v → In v ps × T (same v.0 k)) → In v (x ∷ ps) × T (same v.0 k)
+      by : (b : Bool) → same x.0 k ≡ b → cond b (some x) (find_pair same k ps) ≡ some v → (find_pair same k ps ≡ some v → In v ps × T (same v.0 k)) → In v (x ∷ ps) × T (same v.0 k)
       by true q e f = let z = some_is e in (subst (λ (u : K × ℕ). In u (x ∷ ps)) z here, subst (λ (u : K × ℕ). T (same u.0 k)) z (subst T (sym q) tt))
       by false q e f = let r = f e in (later r.0, r.1)
 
@@ -105,7 +106,7 @@ module _ {K : Type 0} (same : K → K → Bool) (hash : K → ℕ) (chunk : ℕ 
         by (many ps) q n (inr f) = n
 
     -- The lookup of its key finds it.
-    pub answered : (p : ℕ) (x : K × ℕ) → AtHome m p x → lookup same hash chunk (view m) x.0 ≡ some x
+    pub answered : (p : ℕ) (x : K × ℕ) → AtHome m p x → lookup_pair same hash chunk (view m) x.0 ≡ some x
     answered p x a =
         let s = names_shown m.pairs (main m (word m a.cell)) (chunk (hash x.0) a.index) p x a.named a.holds in
         let n = shown_once m.pairs same (main m (word m a.cell)) a.index (chunk (hash x.0) a.index) s.0 (ruled (hash x.0) a.index a.cell a.led).rule s.1 in
@@ -114,7 +115,7 @@ module _ {K : Type 0} (same : K → K → Bool) (hash : K → ℕ) (chunk : ℕ 
         ∙ find_in same hash laws x.0 s.0 x n s.2 (laws.reflexive x.0)
 
     -- What a lookup finds is a reached pair of an equal key.
-    pub found : (k : K) (x : K × ℕ) → lookup same hash chunk (view m) k ≡ some x → (p : ℕ) × AtHome m p x × T (same x.0 k)
+    pub found : (k : K) (x : K × ℕ) → lookup_pair same hash chunk (view m) k ≡ some x → (p : ℕ) × AtHome m p x × T (same x.0 k)
     found k x e =
         let z = lookup_ending (view m) k x e in
         let y = find_member k x z.all z.says in

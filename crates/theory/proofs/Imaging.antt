@@ -17,7 +17,7 @@ use Rattle.theory.proofs.Ground.{Ground}
 use Rattle.theory.proofs.Seating.{shown_state, Shows}
 use Rattle.theory.proofs.Turning.{stays}
 use Rattle.theory.proofs.Writing.{Written, Poised}
-use Rattle.theory.proofs.Fed.{entries_of, Fitting}
+use Rattle.theory.specs.Fed.{entries_of, Fitting}
 use Rattle.theory.specs.Records.{Steady}
 
 module _ {K : Type 0} (same : K → K → Bool) (hash : K → ℕ) where

@@ -1,4 +1,4 @@
-pub mod Fed
+pub mod FedPairs
 pub mod Plans
 pub mod Deeds
 pub mod Book

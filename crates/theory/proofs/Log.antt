@@ -8,14 +8,14 @@ use Rattle.rules.specs.History.{History, Runs}
 use Rattle.rules.specs.Memory.{State}
 use Rattle.rules.specs.Theorem.{StampedCall, Log, Stands, NoneWithdrawn, AtRest, Compact, LogTheorem, extended}
 use Rattle.rules.specs.declared.Figures.{Figures}
-use Rattle.theory.proofs.Feeding.{feeds}
+use Rattle.theory.proofs.Feeding.{feeds_pair}
 use Rattle.theory.proofs.Ground.{Ground}
 use Rattle.theory.proofs.Imaging.{ground}
 use Rattle.theory.proofs.Order.{ordered, stay}
 use Rattle.theory.proofs.Running.{Known, known}
 use Rattle.theory.proofs.Seating.{shown_state}
 use Rattle.theory.proofs.Telling.{told, rested}
-use Rattle.theory.proofs.Fed.{entries_of}
+use Rattle.theory.specs.Fed.{entries_of}
 use Rattle.theory.specs.Claims.{CallTheorem, FormatTheorem}
 
 module _ {K : Type 0} (same : K → K → Bool) (hash : K → ℕ) (laws : KeyLaws same hash) {f : Figures} {h : History K} {s : State K} (w : Known same hash f h s) where
@@ -28,8 +28,8 @@ module _ {K : Type 0} (same : K → K → Bool) (hash : K → ℕ) (laws : KeyLa
       record {
         calls = w.calls;
         ordered = ordered w.book;
-        plain = (feeds same hash laws).plain w.calls w.image.fitting grounded.inv.log.results;
-        unlike = (feeds same hash laws).unlike w.calls;
+        plain = (feeds_pair same hash laws).plain w.calls w.image.fitting grounded.inv.log.results;
+        unlike = (feeds_pair same hash laws).unlike w.calls;
       }
 
   -- With no call open and none withdrawn the machine is at rest.

@@ -21,11 +21,11 @@ use Rattle.rules.specs.declared.Phase.{Phase}
 use Rattle.rules.specs.declared.Phase.TheVariants.{Swap}
 use Rattle.rules.specs.declared.Seat.{Seat}
 use Rattle.theory.proofs.Entries.{Grown}
-use Rattle.theory.proofs.Feeding.{feeds}
+use Rattle.theory.proofs.Feeding.{feeds_pair}
 use Rattle.theory.proofs.Ground.{Ground}
 use Rattle.theory.proofs.Seating.{shown_state, shown_as, swapping, made_pair, last_of, above_of, news}
 use Rattle.theory.proofs.ShownMemory.{shows_memory, read_at}
-use Rattle.theory.proofs.Fed.{entries_of}
+use Rattle.theory.specs.Fed.{entries_of}
 use Rattle.theory.specs.Shown.{shown_mem}
 
 module _ {K : Type 0} (same : K → K → Bool) (k : K) where
@@ -84,8 +84,8 @@ module _ {K : Type 0} (same : K → K → Bool) (hash : K → ℕ) (laws : KeyLa
       ∙ ap (λ (p : Op K). swap p (last_of x) (above_of x) x.pending.expected x.pending.made (made_pair x.ask x.pending.pair) (news (new_cells x)))
       (ap (λ (q : Ask). swapping q x.pending.adds x.verdict.outcome k) a ∙ ap (λ (q : Bool). swapping (Put v) q x.verdict.outcome k) b)) in
       let here = ap (word (shown_mem s.memory)) (read_at x.path.cells x.path.depth c 0 last) ∙ (shows_memory K).word_at s.memory c x.pending.expected holds in
-      let found = present same hash chunk_at (laws_of same hash laws) (entries_of calls) (shown_state s xs) t k v (last_of x) (above_of x) x.pending.expected x.pending.made _ _ g.inv shown here in
-      let told = (feeds same hash laws).said_pairs calls k found.0 (g.inv.log.held k ∙ found.1) in
+      let found = present same hash chunk_at (laws_of same hash laws) (entries_of calls) (shown_state s xs) t k v (last_of x) (above_of x) x.pending.expected x.pending.made _ _ g.inv g.lawful shown here in
+      let told = (feeds_pair same hash laws).said_pairs calls k found.0 (g.inv.log.held k ∙ found.1) in
       (told.pair, told.inside, told.equal)
 
   -- A swap that says yes makes the map longer by what its seat has promised, at most.

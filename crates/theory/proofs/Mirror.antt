@@ -39,7 +39,7 @@ use Rattle.theory.proofs.Stepping.{quits, lacks, finds, grows, entombs, loses, s
 use Rattle.theory.proofs.Taking.{drafts_turn, cleans_turn}
 use Rattle.theory.proofs.Turning.{Moved, stays, going_on, fixed_as}
 use Rattle.theory.proofs.Using.{key_of}
-use Rattle.theory.proofs.Fed.{entries_of}
+use Rattle.theory.specs.Fed.{entries_of}
 use Rattle.theory.specs.Records.{Phased, is_up}
 
 -- A cell that the path has is read off it.

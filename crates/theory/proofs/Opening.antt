@@ -22,7 +22,7 @@ use Rattle.theory.proofs.Ground.{Within}
 use Rattle.theory.proofs.Promises.{cells_by, pairs_by, cells_set, pairs_set}
 use Rattle.theory.proofs.Seating.{Shows}
 use Rattle.theory.proofs.Turning.{Moved, stays, reshown, asked_plain}
-use Rattle.theory.proofs.Fed.{asked}
+use Rattle.theory.specs.Fed.{asked}
 use Rattle.theory.specs.Records.{Steady}
 use Rattle.theory.specs.Shown.{shown_mem}
 

@@ -20,7 +20,7 @@ use Rattle.rules.specs.declared.Phase.{Phase}
 use Rattle.rules.specs.declared.Phase.TheVariants.{Idle, Read, Swap, Climb, Parent, Clean}
 use Rattle.rules.specs.declared.Seat.{Seat}
 use Rattle.theory.proofs.Seating.{above, last_of, above_of, swapping, calling, made_pair, news, shown_as}
-use Rattle.theory.proofs.Fed.{asked}
+use Rattle.theory.specs.Fed.{asked}
 use Rattle.theory.specs.Records.{is_up}
 
 -- THE KEY

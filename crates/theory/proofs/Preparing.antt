@@ -24,7 +24,7 @@ use Rattle.theory.proofs.Seating.{swapping, made_pair, news}
 use Rattle.theory.proofs.Sights.{Drafts}
 use Rattle.theory.proofs.Splitting.{fork_links, splitted}
 use Rattle.theory.proofs.Writing.{NamesPair, Fine}
-use Rattle.theory.proofs.Fed.{asked}
+use Rattle.theory.specs.Fed.{asked}
 use Rattle.theory.specs.Shown.{shown_mem, shown_main}
 
 no_put : (v : ℕ) → Cut ≡ Put v → ⊥

@@ -39,7 +39,7 @@ use Rattle.theory.proofs.Turning.{Moved}
 use Rattle.theory.proofs.Weighing.{within_turn}
 use Rattle.theory.proofs.Withdrawing.{still, withdraw_image}
 use Rattle.theory.proofs.Writing.{Written, Poised}
-use Rattle.theory.proofs.Fed.{entries_of}
+use Rattle.theory.specs.Fed.{entries_of}
 use Rattle.theory.specs.Records.{Steady}
 
 -- Replies of different calls are apart.

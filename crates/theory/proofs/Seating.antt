@@ -15,7 +15,7 @@ use Rattle.rules.specs.declared.Outcome.TheVariants.{Found, Absent, Stored, Remo
 use Rattle.rules.specs.declared.Phase.{Phase}
 use Rattle.rules.specs.declared.Phase.TheVariants.{Idle, Read, Swap, Climb, Parent, Clean}
 use Rattle.rules.specs.declared.Seat.{Seat}
-use Rattle.theory.proofs.Fed.{asked}
+use Rattle.theory.specs.Fed.{asked}
 use Rattle.theory.specs.Shown.{shown_mem}
 
 -- The cells of a path above the one at an index, the nearest first.

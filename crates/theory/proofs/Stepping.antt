@@ -5,7 +5,7 @@ use Rattle.keys.specs.Laws.{KeyLaws}
 use Rattle.keys.specs.Routes.{chunk_at}
 use Rattle.std.specs.List.{slice_get}
 use Rattle.std.proofs.lemmas.Bool.{true≢false, false≢true}
-use Rattle.machine.specs.Machine.{Main as Shape, Seat as Place, Op, get, put, cut, cutting, climb, key, plain, gives, Entry, idle, read, swap, parent, clean, word, main, view, face, tomb as tombed, IsTomb, value, worth, stored}
+use Rattle.machine.specs.Machine.{Main as Shape, Seat as Place, Op, get, put, cut, cutting, climb, key, plain, gives, Entry, idle, read, swap, parent, clean, word, main, view, face, tomb as tombed, IsTomb, value, stored}
 use Rattle.machine.specs.Tree.{stands, on, find}
 use Rattle.machine.specs.Turn.{Turn, Goes, returns, again, swept, dropped as droppedTo}
 use Rattle.mains.specs.Nodes.{branch_at}
@@ -38,7 +38,7 @@ use Rattle.theory.proofs.ShownMemory.{shows_memory, read_at}
 use Rattle.theory.proofs.Sights.{Holds, Lacks, Has, Leaves, Unnamed}
 use Rattle.theory.proofs.Steady.{in_limits_seats}
 use Rattle.theory.proofs.Turning.{Moved, stays, going_on, fixed_as, fixing, asked_plain, plain_swapping, gives_hoped, hopes_fit, path_more, dropped_on, dropped_out, returns_asked, again_asked}
-use Rattle.theory.proofs.Fed.{asked, result_of, entries_of, fits}
+use Rattle.theory.specs.Fed.{asked, result_of, entries_of, fits}
 use Rattle.theory.specs.Records.{Kept, is_up}
 use Rattle.theory.specs.Shown.{shown_mem, shown_main}
 
@@ -149,7 +149,7 @@ module _ {K : Type 0} (same : K → K → Bool) (hash : K → ℕ) (laws : KeyLa
       by : (a : Ask) → x.ask ≡ a → is_put a ≡ false → After s.memory idle_seat (fixed_as s t k at Absent ∷ calls)
       by Get q np =
           ends Get q at Absent refl
-          (subst (λ u. Turn same hash chunk_at (shown_state s xs) (some (record { stamp = suc s.table.ticks; op = get k; result = value (worth u) })) (record { mem = shown_mem s.memory; seats = set xs t idle; ticks = suc s.table.ticks })) ps.2
+          (subst (λ u. Turn same hash chunk_at (shown_state s xs) (some (record { stamp = suc s.table.ticks; op = get k; result = value u })) (record { mem = shown_mem s.memory; seats = set xs t idle; ticks = suc s.table.ticks })) ps.2
           (Turn.got t k (last_of x) (above_of x) ps.0 in_shown (read_is Get e q) solid sees))
       by (Put v) q np = absurd (true≢false np)
       by Cut q np = ends Cut q at Absent refl (Turn.lacks t k (last_of x) (above_of x) ps.0 in_shown (read_is Cut e q) solid sees ps.2)

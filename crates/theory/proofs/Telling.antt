@@ -27,7 +27,7 @@ use Rattle.rules.specs.declared.Ask.{Ask}
 use Rattle.rules.specs.declared.Ask.TheVariants.{Get, Put, Cut}
 use Rattle.rules.specs.declared.Figures.{Figures}
 use Rattle.rules.specs.declared.Pair.{Pair}
-use Rattle.theory.proofs.Feeding.{feeds}
+use Rattle.theory.proofs.Feeding.{feeds_pair}
 use Rattle.theory.proofs.Faces.{at_named, names_shown, shown_names}
 use Rattle.theory.proofs.Ground.{Ground}
 use Rattle.theory.proofs.Homes.{shows_at, answered, found, one_home}
@@ -38,7 +38,7 @@ use Rattle.theory.proofs.Reaching.{shows_reach}
 use Rattle.theory.proofs.Seating.{shown_state}
 use Rattle.theory.proofs.ShownMemory.{shows_memory}
 use Rattle.theory.proofs.Using.{intact, reached_leads}
-use Rattle.theory.proofs.Fed.{asked, entries_of}
+use Rattle.theory.specs.Fed.{asked, entries_of}
 use Rattle.theory.specs.Shown.{shown_main, shown_mem}
 
 -- A tomb is shown as one.
@@ -68,13 +68,13 @@ module _ {K : Type 0} (same : K → K → Bool) (hash : K → ℕ) (laws : KeyLa
         only : (p : ℕ) (y : Pair K) → ReachedPair same hash s.memory p → slice_get s.memory.pairs p ≡ Some y → Memᴰ y (fed same calls)
         only p y r e =
             let l = answered same hash chunk_at (laws_of same hash laws) (shown_mem s.memory) g.inv.shape g.lawful.ruled p (y.key, y.value) (home same hash laws g p y r e) in
-            let z = (feeds same hash laws).said_pairs calls y.key (y.key, y.value) (g.inv.log.held y.key ∙ l) in
+            let z = (feeds_pair same hash laws).said_pairs calls y.key (y.key, y.value) (g.inv.log.held y.key ∙ l) in
             subst (λ (u : Pair K). Memᴰ u (fed same calls)) (sym (shown_is {y = y} {z = z.pair} z.shown)) z.inside
 
         all : (y : Pair K) → Memᴰ y (fed same calls) → (p : ℕ) × ReachedPair same hash s.memory p × (slice_get s.memory.pairs p ≡ Some y)
         all y m =
             let z = found same hash chunk_at (laws_of same hash laws) (shown_mem s.memory) g.inv.shape g.lawful.ruled y.key (y.key, y.value)
-            (sym (g.inv.log.held y.key) ∙ (feeds same hash laws).pairs_said calls y m) in
+            (sym (g.inv.log.held y.key) ∙ (feeds_pair same hash laws).pairs_said calls y m) in
             let w = (shows_memory K).pair_from s.memory z.0 (y.key, y.value) z.1.holds in
             (z.0, reached same hash laws g z.0 (hash y.key, z.1.index, z.1.cell, z.1.led, at_named _ _ z.0 z.1.named), w.1 ∙ ap Some (shown_is {y = w.0} {z = y} w.2))
 
@@ -98,7 +98,7 @@ module _ {K : Type 0} (same : K → K → Bool) (hash : K → ℕ) (laws : KeyLa
         many =
             record {
               them = list.0;
-              once = once_placed same hash laws Lies (λ p y z a b. some_is y z (sym a.1 ∙ b.1)) list.0 (fed same calls) list.1 ((feeds same hash laws).unlike calls);
+              once = once_placed same hash laws Lies (λ p y z a b. some_is y z (sym a.1 ∙ b.1)) list.0 (fed same calls) list.1 ((feeds_pair same hash laws).unlike calls);
               only = λ p m. (of_place Lies list.0 (fed same calls) list.1 p m).2.0;
               all = listed_at_lem;
               many = as_many Lies list.0 (fed same calls) list.1;

@@ -24,7 +24,7 @@ use Rattle.rules.specs.declared.Seat.{Seat}
 use Rattle.theory.proofs.Passing.{nearest}
 use Rattle.theory.proofs.Seating.{above, last_of, above_of, taken_out, swapping, calling, shown_as, shown_seat, shown_state, Shows}
 use Rattle.theory.proofs.Writing.{Hopes}
-use Rattle.theory.proofs.Fed.{asked, result_of, entries_of, fits, Fitting}
+use Rattle.theory.specs.Fed.{asked, result_of, entries_of, fits, Fitting}
 use Rattle.theory.specs.Shown.{shown_mem}
 
 -- THE CALLS OF SEATS

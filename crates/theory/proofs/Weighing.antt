@@ -27,7 +27,7 @@ use Rattle.theory.proofs.Ground.{Ground, Within}
 use Rattle.theory.proofs.MapSizes.{no_longer, swap_longer}
 use Rattle.theory.proofs.Promises.{cells_by, pairs_by, cells_set, pairs_set, promised_most, chain_length, no_chain}
 use Rattle.theory.proofs.Sights.{Sees, Reads, Leaves, sees}
-use Rattle.theory.proofs.Fed.{entries_of}
+use Rattle.theory.specs.Fed.{entries_of}
 
 module _ {K : Type 0} (same : K → K → Bool) (hash : K → ℕ) (laws : KeyLaws same hash) {f : Figures} {s : State K} {xs : List (Place K)} (calls : List (StampedCall K)) (g : Ground same hash f (entries_of calls) s xs) (w : Within same hash s) where
   module _ (t : ℕ) (picks : Picks) (more : List (StampedCall K)) where

@@ -1,4 +1,5 @@
 pub mod Records
+pub mod Fed
 pub mod Orders
 pub mod Places
 pub mod Shown

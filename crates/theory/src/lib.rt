@@ -5,6 +5,7 @@
 ghost use Rattle.rules.specs.Memory.{Memory};
 ghost use Rattle.rules.specs.Theorem.{LogTheorem};
 ghost use Rattle.theory.specs.Claims.{CallTheorem, FormatTheorem};
+ghost use Rattle.theory.specs.Fed.{FeedTheorem};
 ghost use Rattle.theory.specs.Orders.{OrderTheorem};
 ghost use Rattle.theory.specs.Places.{RoomSuffices, Tells};
 ghost use Rattle.theory.specs.Reaching.{ShowsReach};
@@ -46,6 +47,13 @@ pub fn counts_tell<K: Key>() -> u8
 // After every history the table keeps its figures, its memory their need, and each seat the rules of its record.
 pub fn records_steady<K: Key>() -> u8
     ensures { SteadyTheorem K.Key.same K.Key.hash }
+{
+    0
+}
+
+// The plain map of the rules and the log of the machine say the same, for every key kind.
+pub fn maps_agree<K: Key>() -> u8
+    ensures { FeedTheorem K.Key.same K.Key.hash }
 {
     0
 }

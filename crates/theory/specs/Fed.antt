@@ -1,9 +1,9 @@
 -- Stamped calls as entries of the machine's log, and what it means that the plain map of the rules says the same as that log.
-use Rattle.std.proofs.Common.{◌≡◌, ℕ, Bool, true, false, cond, List, [], ◌∷◌, Some, None, Option}
+use Rattle.std.specs.Prelude.{◌≡◌, ℕ, Bool, true, false, List, [], ◌∷◌, Some, None, Option}
 use mathlib.Core.List.{Memᴰ}
-use mathlib.Core.Option.{Option as Maybe, none, some}
+use Rattle.std.proofs.Math.Option.{Option as Maybe, none, some}
 use Rattle.keys.specs.Laws.{KeyLaws}
-use Rattle.machine.specs.Machine.{Op, get, put, cut, Result, value, stored, Entry, worth, replay, Plain as LogPlain}
+use Rattle.machine.specs.Machine.{Op, get, put, cut, Result, value, stored, Entry, replay, Plain as LogPlain}
 use Rattle.rules.specs.PlainMap.{find, Unlike}
 use Rattle.rules.specs.Theorem.{StampedCall, fed, Plain}
 use Rattle.rules.specs.declared.Ask.{Ask}
@@ -59,31 +59,29 @@ maybe None = none
 maybe (Some v) = some v
 
 module _ {K : Type 0} (same : K → K → Bool) where
-  -- The pair that the plain map of the rules holds under a key, in the words of the machine.
-  unfoldable pub pair_in : K → List (Pair K) → Maybe (K × ℕ)
-  pair_in k [] = none
-  pair_in k (y ∷ ys) = cond (same y.key k) (some (y.key, y.value)) (pair_in k ys)
+  -- The value that the plain map of the rules holds under a key, in the words of the machine.
+  abbrev pub value_in : K → List (Pair K) → Maybe ℕ
+  value_in k ys = maybe (find same k ys)
 
-  -- A pair of the map with a key equal to the one given, as the machine shows it.
-  pub record PairFor (ys : List (Pair K)) (k : K) (x : K × ℕ) : Type 0 where
+  -- A pair of the map with a key equal to the one given, and with the value given.
+  pub record PairFor (ys : List (Pair K)) (k : K) (v : ℕ) : Type 0 where
     pub pair : Pair K
     pub inside : Memᴰ pair ys
     pub equal : same pair.key k ≡ true
-    pub shown : (pair.key, pair.value) ≡ x
+    pub valued : pair.value ≡ v
 
   -- The plain map of the rules, fed any calls, says the same as the machine's log of these calls.
   pub record Feeds : Type 0 where
-    -- Under each key the map holds the pair that the log says.
-    pub held : (calls : List (StampedCall K)) (k : K) → pair_in k (fed same calls) ≡ replay same (entries_of calls) k
-    pub worthy : (k : K) (ys : List (Pair K)) → worth (pair_in k ys) ≡ maybe (find same k ys)
+    -- Under each key the map holds what the log says.
+    pub held : (calls : List (StampedCall K)) (k : K) → value_in k (fed same calls) ≡ replay same (entries_of calls) k
     -- Outcomes that fit their asks and are right by the log are those of the map.
     pub plain : (calls : List (StampedCall K)) → Fitting calls → LogPlain same (entries_of calls) → Plain same calls
     -- The map holds no two pairs of equal keys.
     pub unlike : (calls : List (StampedCall K)) → Unlike same (fed same calls)
-    -- The log says each pair of the map under the pair's key.
-    pub pairs_said : (calls : List (StampedCall K)) (y : Pair K) → Memᴰ y (fed same calls) → replay same (entries_of calls) y.key ≡ some (y.key, y.value)
-    -- What the log says under a key is a pair of the map.
-    pub said_pairs : (calls : List (StampedCall K)) (k : K) (x : K × ℕ) → replay same (entries_of calls) k ≡ some x → PairFor (fed same calls) k x
+    -- The log says the value of each pair of the map under the pair's key.
+    pub pairs_said : (calls : List (StampedCall K)) (y : Pair K) → Memᴰ y (fed same calls) → replay same (entries_of calls) y.key ≡ some y.value
+    -- What the log says under a key is the value of a pair of the map.
+    pub said_pairs : (calls : List (StampedCall K)) (k : K) (v : ℕ) → replay same (entries_of calls) k ≡ some v → PairFor (fed same calls) k v
 
   -- The theorem, of a key kind that keeps its laws.
   abbrev pub FeedTheorem : (K → ℕ) → Type 0

@@ -1,5 +1,5 @@
 -- What a put that replaces has read shows a pair of an equal key. A list that is altered has one, since as many pairs stay and no key comes twice.
-use mathlib.Core.Path.{◌≡◌, refl, sym, ap, ◌∙◌}
+use mathlib.Core.Path.{◌≡◌, refl, ap, ◌∙◌}
 use mathlib.Core.Bool.{Bool}
 use mathlib.Core.List.{List, [], ◌∷◌}
 use mathlib.Core.Option.{Option, none, some}
@@ -9,7 +9,7 @@ use native.Mathlib.Omega.{arith}
 use lib.Dec.{T}
 use lib.ListN.{length}
 use Rattle.machine.specs.Tree.{stands, In, here, later, nth, NoTwice}
-use Rattle.machine.specs.Machine.{Main, many, HasPair, Mem, gather, join, face, Op, get, put, renew, cut, cutting, climb, key, Prepares}
+use Rattle.machine.specs.Machine.{Main, HasPair, Mem, gather, join, face, Op, get, put, renew, cut, cutting, climb, key, Prepares}
 use Rattle.machine.proofs.Laws.{Laws}
 use Rattle.machine.proofs.Keep.{face_alike}
 use Rattle.machine.proofs.Members.{find_cases}

@@ -9,7 +9,7 @@ use native.Mathlib.Decide.{ℕ_discrete}
 use lib.ListN.{length, get_or, set}
 use lib.Seq.{get_or-set_same}
 use Rattle.machine.specs.Tree.{walk, here, later, nth}
-use Rattle.machine.specs.Machine.{Main, node, tomb, many, HasPair, Mem, word, main, view, Op, get, put, renew, cut, cutting, climb, key, plain, Seat, idle, read, swap, parent, clean, path, State, seat, Expects, MainInUse, CellInUse, PairInUse, Alike, swung, Prepares, Cleans, Entry}
+use Rattle.machine.specs.Machine.{Main, node, tomb, many, HasPair, Mem, word, main, view, Op, get, put, renew, cut, cutting, climb, key, plain, Seat, idle, read, swap, parent, clean, State, seat, Expects, MainInUse, CellInUse, PairInUse, Alike, swung, Prepares, Cleans, Entry}
 use Rattle.machine.proofs.Walk.{no_some, walk_on}
 use Rattle.machine.proofs.Inv.{cells, Does, Same, SeatOK, Pend, Shape, Inv}
 use Rattle.machine.proofs.Keep.{gather_alike, is_reached, view_cell, walk_alike, word_alike}

@@ -8,7 +8,7 @@ use Prim.Native.Nat.{ℕ, suc, ◌<◌}
 use native.Mathlib.Decide.{ℕ_discrete}
 use lib.ListN.{length, get_or, set}
 use lib.Seq.{get_or-set_same, get_or-set_other}
-use Rattle.machine.specs.Tree.{on, walk, In, here, later, nth}
+use Rattle.machine.specs.Tree.{on, walk, In, later, nth}
 use Rattle.machine.specs.Machine.{IsTomb, HasCell, Mem, word, main, view, Op, get, put, renew, cut, cutting, climb, key, plain, Seat, idle, read, swap, parent, clean, path, MakesCell}
 use Rattle.machine.proofs.Walk.{some_is, walk_on, walk_back, root_is}
 use Rattle.machine.proofs.Inv.{SeatOK}

@@ -1,12 +1,12 @@
 -- A put that replaces does replace: while its swap can still say yes, its key is there.
 use mathlib.Core.Path.{◌≡◌, refl, ◌∙◌}
 use mathlib.Core.Bool.{Bool}
-use mathlib.Core.List.{List, ◌∷◌}
+use mathlib.Core.List.{List}
 use mathlib.Core.Option.{Option, none, some}
 use Prim.Native.Nat.{ℕ}
 use lib.ListN.{length}
-use Rattle.machine.specs.Tree.{stands, walk}
-use Rattle.machine.specs.Machine.{IsTomb, word, main, view, renew, swap, State, seat, Entry}
+use Rattle.machine.specs.Tree.{walk}
+use Rattle.machine.specs.Machine.{word, main, view, renew, swap, State, seat, Entry}
 use Rattle.machine.specs.Pairs.{find_pair, lookup_pair}
 use Rattle.machine.proofs.Effect.{stop, lookup_ends}
 use Rattle.machine.proofs.Inv.{Does, Pend, Inv}

@@ -9,7 +9,7 @@ use native.Mathlib.Omega.{arith}
 use native.Mathlib.Decide.{ℕ_discrete}
 use lib.Dec.{T}
 use lib.ListN.{get_or}
-use Rattle.machine.specs.Tree.{Level, Spot, stands, on, Agree, In, here, later, nth, Home}
+use Rattle.machine.specs.Tree.{Level, Spot, stands, on, Agree, In, here, nth, Home}
 use Rattle.machine.specs.Machine.{Branch, nothing, pair, cell, node, many, HasPair, Mem, face, main, put, Chain}
 use Rattle.machine.specs.Pairs.{find_pair}
 use Rattle.machine.proofs.Laws.{Laws}

@@ -10,7 +10,7 @@ use native.Mathlib.Decide.{ℕ_discrete}
 use lib.ListN.{length, get_or, length-set}
 use lib.Seq.{get_or-set_same, get_or-set_other}
 use Rattle.machine.specs.Tree.{Level, Spot, stands, walk, In, nth}
-use Rattle.machine.specs.Machine.{Branch, nothing, Main, node, tomb, many, IsTomb, IsFlat, HasPair, Mem, spot, face, word, main, view, key, Seat, idle, read, swap, parent, clean, path, Expects, MakesMain, MakesPair, MakesCell, swung}
+use Rattle.machine.specs.Machine.{Branch, nothing, Main, node, tomb, many, IsTomb, IsFlat, HasPair, Mem, spot, face, word, main, view, key, Seat, idle, read, swap, parent, clean, Expects, MakesMain, MakesPair, MakesCell, swung}
 use Rattle.machine.specs.Pairs.{lookup_pair}
 use Rattle.machine.proofs.Walk.{no_some, walk_on}
 use Rattle.machine.proofs.Ready.{Ready, ready_back, ready_new, ready_on, ready_one, ready_placed, ready_effect}

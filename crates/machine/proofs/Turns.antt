@@ -11,7 +11,7 @@ use lib.Dec.{T}
 use lib.ListN.{length, get_or, set}
 use lib.Seq.{get_or-set_same, get_or-set_other}
 use Rattle.machine.specs.Tree.{stands, on, walk, find, In, here, later, nth}
-use Rattle.machine.specs.Machine.{Main, tomb, IsTomb, Mem, word, main, view, Op, get, put, renew, cut, cutting, climb, key, plain, Seat, idle, read, swap, parent, clean, path, State, seat, Expects, MakesMain, MakesPair, MakesCell, CellInUse, Fresh, MainInUse, PairInUse, Alike, seated, moved, swung, Prepares, Cleans, Moves, value, Entry, gives, Step, Rising, add, Formatted, Runs, formatted, then}
+use Rattle.machine.specs.Machine.{Main, tomb, IsTomb, Mem, word, main, view, Op, get, put, renew, cut, cutting, climb, key, plain, Seat, idle, read, swap, parent, clean, State, seat, Expects, MakesMain, MakesPair, MakesCell, CellInUse, Fresh, MainInUse, PairInUse, Alike, seated, moved, swung, Prepares, Cleans, Moves, value, Entry, gives, Step, Rising, add, Formatted, Runs}
 use Rattle.machine.specs.Pairs.{seek_pair, find_pair, lookup_pair, worth, after_pair, says_pair, replay_pair, PlainPair, StandsPair}
 use Rattle.machine.proofs.Laws.{Laws}
 use Rattle.machine.proofs.Walk.{no_some, walk_on, walk_back, root_is}

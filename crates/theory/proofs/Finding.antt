@@ -1,19 +1,18 @@
 -- What a read finds of a key by the rules, the machine finds.
-use Rattle.std.proofs.Common.{◌≡◌, ℕ, Bool, true, false, cond, List, [], ◌∷◌, map, get_or, Some, None, Option, sym, refl, ap, ◌∙◌, subst, arith}
+use Rattle.std.proofs.Common.{◌≡◌, ℕ, Bool, true, false, cond, List, [], ◌∷◌, map, Some, None, Option, sym, refl, ap, ◌∙◌, arith}
 use mathlib.Core.Option.{none, some}
 use Rattle.keys.proofs.Chunks.{chunk_below}
 use Rattle.keys.specs.Routes.{chunk_at}
 use Rattle.std.specs.List.{slice_get}
-use Rattle.machine.specs.Machine.{nothing, IsTomb, face, spot, lone, gather}
-use Rattle.machine.specs.Tree.{Spot, stands, on, find}
+use Rattle.machine.specs.Machine.{IsTomb, face, spot, lone, gather}
+use Rattle.machine.specs.Tree.{stands, on, find}
 use Rattle.machine.proofs.Worth.{find_worth}
 use Rattle.machine.specs.Pairs.{worth, find_pair}
 use Rattle.mains.specs.Lists.{listed}
 use Rattle.mains.specs.Nodes.{branch_at}
-use Rattle.mains.specs.declared.Branch.{Branch}
 use Rattle.mains.specs.declared.Branch.TheVariants.{Pair as pair, Cell as cell}
 use Rattle.mains.specs.declared.Main.{Main}
-use Rattle.mains.specs.declared.Main.TheVariants.{Node as node, Tomb as tomb, List as listing}
+use Rattle.mains.specs.declared.Main.TheVariants.{Node as node}
 use Rattle.mains.specs.declared.Node.{Node}
 use Rattle.rules.specs.Memory.{Memory}
 use Rattle.rules.specs.Sound.{pairs_at}
@@ -23,7 +22,7 @@ use Rattle.theory.proofs.Gathering.{gathered, shown_gathers, place_none}
 use Rattle.theory.proofs.Shown.{shows_edits}
 use Rattle.theory.proofs.ShownMemory.{shows_memory}
 use Rattle.theory.proofs.Sights.{Lacks, Has}
-use Rattle.theory.specs.Shown.{slot, slots, shown_main, shown_mem, shown_pair}
+use Rattle.theory.specs.Shown.{slot, shown_main, shown_mem, shown_pair}
 
 none_some : {A B : Type 0} {a : A} → ◌≡◌ {A = Option A} None (Some a) → B
 none_some e = let z : ◌≡◌ {A = ℕ} 0 1 = cc in absurd (omega arith)

@@ -1,5 +1,5 @@
 -- What is known of an open seat in the machine, and of the main that it reads in a cell of its path.
-use Rattle.std.proofs.Common.{◌≡◌, ℕ, ◌<◌, ◌≤◌, Bool, false, List, ◌∷◌, length, get_or, Some, sym, refl, ap, ◌∙◌, subst, arith}
+use Rattle.std.proofs.Common.{◌≡◌, ℕ, ◌<◌, ◌≤◌, Bool, false, List, length, get_or, Some, sym, ap, ◌∙◌, subst, arith}
 use Rattle.keys.specs.Laws.{KeyLaws}
 use Rattle.std.specs.List.{slice_get}
 use Rattle.machine.specs.Machine.{Entry, Main as Shape, Seat as Place, idle, HasPair, word, main as mainOf}

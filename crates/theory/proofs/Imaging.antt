@@ -7,7 +7,6 @@ use Rattle.machine.proofs.Chunk.{chunks}
 use Rattle.machine.proofs.Laws.{laws_of}
 use Rattle.machine.specs.Machine.{Seat as Place}
 use Rattle.machine.specs.Turn.{Turns}
-use Rattle.rules.specs.Calls.{withdrawn}
 use Rattle.rules.specs.History.{History}
 use Rattle.rules.specs.Memory.{State}
 use Rattle.rules.specs.Seats.{seat_of, is_idle}
@@ -15,7 +14,6 @@ use Rattle.rules.specs.Theorem.{StampedCall, NoneWithdrawn}
 use Rattle.rules.specs.declared.Figures.{Figures}
 use Rattle.theory.proofs.Ground.{Ground}
 use Rattle.theory.proofs.Seating.{shown_state, Shows}
-use Rattle.theory.proofs.Turning.{stays}
 use Rattle.theory.proofs.Writing.{Written, Poised}
 use Rattle.theory.specs.Fed.{entries_of, Fitting}
 use Rattle.theory.specs.Records.{Steady}

@@ -1,12 +1,12 @@
 -- The log theorem, and the same call by call.
-use Rattle.std.proofs.Common.{◌≡◌, ℕ, Bool, false, List, [], subst}
+use Rattle.std.proofs.Common.{ℕ, Bool, [], subst}
 use Rattle.keys.specs.Laws.{KeyLaws}
 use Rattle.keys.specs.Routes.{chunk_at}
 use Rattle.machine.specs.Turn.{Turns}
 use Rattle.rules.specs.Calls.{formatted}
 use Rattle.rules.specs.History.{History, Runs}
 use Rattle.rules.specs.Memory.{State}
-use Rattle.rules.specs.Theorem.{StampedCall, Log, Stands, NoneWithdrawn, AtRest, Compact, LogTheorem, extended}
+use Rattle.rules.specs.Theorem.{Log, Stands, NoneWithdrawn, AtRest, Compact, LogTheorem, extended}
 use Rattle.rules.specs.declared.Figures.{Figures}
 use Rattle.theory.proofs.Feeding.{feeds_pair}
 use Rattle.theory.proofs.Ground.{Ground}

@@ -1,9 +1,9 @@
 -- Every call on a table is a step of the machine on the state shown, with the calls that are stamped as its log.
-use Rattle.std.proofs.Common.{◌≡◌, ℕ, zero, suc, ◌-◌, ◌<◌, ◌≤◌, Bool, true, false, cond, not, ◌&&◌, eqb, leb, ◌⊎◌, List, [], ◌∷◌, length, get_or, set, Some, None, Option, sym, refl, ap, ◌∙◌, subst, inl, inr, arith}
+use Rattle.std.proofs.Common.{◌≡◌, ℕ, ◌-◌, ◌≤◌, Bool, true, false, cond, ◌&&◌, eqb, leb, List, ◌∷◌, get_or, set, Some, None, Option, sym, refl, ap, ◌∙◌, subst, arith}
 use Rattle.keys.specs.Laws.{KeyLaws}
 use Rattle.keys.specs.Routes.{chunk_at}
 use Rattle.std.specs.List.{slice_get}
-use Rattle.std.proofs.lemmas.Bool.{and_parts, eqb-true, true≢false, false≢true}
+use Rattle.std.proofs.lemmas.Bool.{and_parts, eqb-true, false≢true}
 use Rattle.panel.specs.declared.Refusal.TheVariants.{NoSuchSeat, SeatIdle, CountersSpent, MemoryUnfit, TableFull}
 use Rattle.machine.specs.Machine.{Entry, Seat as Place}
 use Rattle.mains.specs.Nodes.{replaced}
@@ -12,8 +12,8 @@ use Rattle.mains.specs.declared.Main.{Main}
 use Rattle.mains.specs.declared.Main.TheVariants.{Node as node}
 use Rattle.rules.proofs.Naming.{some_is}
 use Rattle.rules.specs.Edits.{adds_pair, links_of, kept_node}
-use Rattle.rules.specs.Memory.{Memory, State, last_count}
-use Rattle.rules.specs.Perform.{Out, Picks, Picked, Takes, enough, full, made_memory, pending_for, performed, turned, quitted, going, refused, worded}
+use Rattle.rules.specs.Memory.{State, last_count}
+use Rattle.rules.specs.Perform.{Picks, Picked, Takes, enough, full, made_memory, pending_for, performed, turned, quitted, going, refused, worded}
 use Rattle.rules.specs.Seats.{seat_of, no_seat, is_idle, last_cell, parent_cell, hoping, prepared}
 use Rattle.rules.specs.Sound.{sound}
 use Rattle.rules.specs.Theorem.{StampedCall}
@@ -24,22 +24,19 @@ use Rattle.rules.specs.declared.Figures.{Figures}
 use Rattle.rules.specs.declared.Outcome.{Outcome}
 use Rattle.rules.specs.declared.Outcome.TheVariants.{Found, Absent}
 use Rattle.rules.specs.declared.Phase.{Phase}
-use Rattle.rules.specs.declared.Phase.TheVariants.{Read, Swap, Climb, Parent, Clean}
+use Rattle.rules.specs.declared.Phase.TheVariants.{Read, Swap, Climb, Clean}
 use Rattle.rules.specs.declared.Plan.{Plan}
-use Rattle.rules.specs.declared.Plan.TheVariants.{Refuse, Make}
+use Rattle.rules.specs.declared.Plan.TheVariants.{Make}
 use Rattle.rules.specs.declared.Seat.{Seat}
 use Rattle.theory.proofs.Entries.{Grown}
 use Rattle.theory.proofs.Ground.{Ground}
-use Rattle.theory.proofs.Passing.{above_two}
 use Rattle.theory.proofs.Preparing.{node_low}
-use Rattle.theory.proofs.Seating.{last_of, above_of, shown_seat}
+use Rattle.theory.proofs.Seating.{last_of}
 use Rattle.theory.proofs.ShownMemory.{read_at}
 use Rattle.theory.proofs.Sights.{Holds, Reads, Leaves, Sees, sees}
-use Rattle.theory.proofs.Stepping.{quits, lacks, finds, grows, entombs, loses, settles, finishes, climbs_out, climbs_on, parted, cleaned, leaves_out, leaves_on, leaves_back, misses, gives_up_lem, swapped, Left, in_seats, in_shown, first_above}
+use Rattle.theory.proofs.Stepping.{quits, lacks, finds, grows, entombs, loses, settles, finishes, climbs_out, climbs_on, parted, cleaned, leaves_out, leaves_on, leaves_back, misses, gives_up_lem, Left, in_seats, in_shown, first_above}
 use Rattle.theory.proofs.Taking.{drafts_turn, cleans_turn}
 use Rattle.theory.proofs.Turning.{Moved, stays, going_on, fixed_as}
-use Rattle.theory.proofs.Using.{key_of}
-use Rattle.theory.specs.Fed.{entries_of}
 use Rattle.theory.specs.Records.{Phased, is_up}
 
 -- A cell that the path has is read off it.

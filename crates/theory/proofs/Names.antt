@@ -2,7 +2,7 @@
 use Rattle.std.proofs.Common.{◌≡◌, ℕ, true, List, [], ◌∷◌, sym, refl, arith}
 use mathlib.Core.List.{Memᴰ}
 use Rattle.machine.specs.Machine.{IsTomb, HasPair}
-use Rattle.machine.specs.Tree.{In, here, later}
+use Rattle.machine.specs.Tree.{In}
 use Rattle.mains.proofs.Edits.{has_low}
 use Rattle.mains.proofs.Standing.{has_some}
 use Rattle.mains.specs.Lists.{listed}

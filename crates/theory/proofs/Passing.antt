@@ -8,7 +8,7 @@ use Rattle.std.proofs.lemmas.Bool.{true≢false}
 use Rattle.machine.proofs.Inv.{At, PathOK, SeatOK}
 use Rattle.machine.proofs.Walk.{no_some, some_is}
 use Rattle.machine.specs.Machine.{Mem, IsTomb, main, word, tomb, key, path, Expects, MakesMain, MakesPair, MakesCell}
-use Rattle.machine.specs.Tree.{In, here, later, nth as placed}
+use Rattle.machine.specs.Tree.{In, nth as placed}
 use Rattle.rules.specs.Edits.{first, rest}
 use Rattle.rules.specs.InUse.{is_pending}
 use Rattle.rules.specs.Seats.{is_idle, is_put, path_cells, new_cells}

@@ -1,16 +1,11 @@
 -- The pairs that the rules reach are those that the machine reaches in the memory shown.
-use Rattle.std.proofs.Common.{◌≡◌, ℕ, ◌<◌, Bool, true, false, List, [], ◌∷◌, Some, sym, refl, ap, ◌∙◌, subst}
+use Rattle.std.proofs.Common.{◌≡◌, ℕ, ◌<◌, Bool, List, [], ◌∷◌, Some, sym, ap, ◌∙◌, subst}
 use mathlib.Core.List.{Memᴰ}
-use mathlib.Core.Option.{some}
 use Rattle.keys.specs.Laws.{KeyLaws}
 use Rattle.keys.specs.Routes.{chunk_at}
 use Rattle.std.specs.List.{slice_get}
-use Rattle.std.proofs.lemmas.Bool.{false≢true}
-use Rattle.machine.proofs.Inv.{SeatOK}
 use Rattle.machine.proofs.Laws.{laws_of}
-use Rattle.machine.proofs.Turns.{ok_at}
 use Rattle.machine.specs.Machine.{Entry, Seat as Place, HasPair, Main as Shape, word, main as mainOf}
-use Rattle.machine.specs.Machine.{PairInUse as UsedPair}
 use Rattle.machine.specs.Tree.{In, here, later}
 use Rattle.mains.specs.Lists.{listed}
 use Rattle.mains.specs.Nodes.{branch_at}
@@ -20,20 +15,12 @@ use Rattle.mains.specs.declared.Main.{Main}
 use Rattle.mains.specs.declared.Main.TheVariants.{Node as node, Tomb as tomb, List as listing}
 use Rattle.mains.specs.declared.Node.{Node}
 use Rattle.rules.proofs.Naming.{then_some, sound_in_lem, at_chunk}
-use Rattle.rules.specs.InUse.{PairInUse}
 use Rattle.rules.specs.Memory.{Memory, State, main_at, main_in}
 use Rattle.rules.specs.Reached.{ReachedPair, pairs_in, branches_to, branches_of, pairs_of}
-use Rattle.rules.specs.Seats.{seat_of, is_idle, is_put}
-use Rattle.rules.specs.declared.Ask.{Ask}
-use Rattle.rules.specs.declared.Ask.TheVariants.{Get, Put, Cut}
 use Rattle.rules.specs.declared.Figures.{Figures}
 use Rattle.rules.specs.declared.Pair.{Pair}
-use Rattle.rules.specs.declared.Phase.{Phase}
-use Rattle.rules.specs.declared.Phase.TheVariants.{Swap}
-use Rattle.rules.specs.declared.Seat.{Seat}
 use Rattle.theory.proofs.Ground.{Ground}
 use Rattle.theory.proofs.Homes.{Reaches, AtHome, at_home}
-use Rattle.theory.proofs.Seating.{shown_as, made_pair}
 use Rattle.theory.proofs.Shown.{shows_edits}
 use Rattle.theory.proofs.ShownMemory.{shows_memory}
 use Rattle.theory.proofs.Using.{reached_leads, pair_reached}

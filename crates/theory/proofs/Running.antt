@@ -1,10 +1,9 @@
 -- Every history of a table runs the machine, stays within its limits and never lacks memory.
-use Rattle.std.proofs.Common.{◌≡◌, ℕ, Bool, false, List, [], ◌∷◌, Err, Option, Result, sym, refl, ap, ◌∙◌, subst, arith}
+use Rattle.std.proofs.Common.{◌≡◌, ℕ, Bool, false, List, [], ◌∷◌, Err, Result, sym, ap, ◌∙◌, subst, arith}
 use mathlib.Core.List.{Memᴰ}
 use Rattle.keys.specs.Laws.{KeyLaws}
 use Rattle.panel.specs.declared.Refusal.{Refusal}
 use Rattle.panel.specs.declared.Refusal.TheVariants.{MemoryUnfit}
-use Rattle.machine.specs.Machine.{Seat as Place}
 use Rattle.rules.specs.Calls.{opened, withdrawn}
 use Rattle.rules.specs.History.{Event, History, bears, Does, Runs}
 use Rattle.rules.specs.Memory.{State}
@@ -17,14 +16,13 @@ use Rattle.rules.specs.declared.Ask.{Ask}
 use Rattle.rules.specs.declared.Call.{Call}
 use Rattle.rules.specs.declared.Call.TheVariants.{Open, Turn, Withdraw, Count}
 use Rattle.rules.specs.declared.Figures.{Figures}
-use Rattle.rules.specs.declared.Outcome.{Outcome}
 use Rattle.rules.specs.declared.Reply.{Reply}
 use Rattle.rules.specs.declared.Reply.TheVariants.{Opened, Turned, Withdrew, Counted}
 use Rattle.rules.specs.declared.Tally.{Tally}
 use Rattle.rules.specs.declared.Turned.{Turned as Answered}
 use Rattle.rules.specs.declared.Withdrawn.{Withdrawn}
 use Rattle.theory.proofs.Book.{Book, seat_in}
-use Rattle.theory.proofs.Entries.{Grown, as_before, Next}
+use Rattle.theory.proofs.Entries.{Grown, as_before}
 use Rattle.theory.proofs.Ground.{Ground, Within}
 use Rattle.theory.proofs.Imaging.{Image, ground}
 use Rattle.theory.proofs.Keeping.{does_written, does_poised}

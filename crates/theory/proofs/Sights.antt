@@ -1,9 +1,8 @@
 -- What a turn of an open seat can see, and the plan that follows from each sight.
-use Rattle.std.proofs.Common.{◌≡◌, ℕ, suc, ◌-◌, ◌<◌, ◌≤◌, Bool, true, false, cond, ◌&&◌, eqb, ltb, leb, ◌⊎◌, List, get_or, set, Some, None, Ok, Err, Option, Result, sym, refl, ap, ◌∙◌, subst, inl, inr, arith}
+use Rattle.std.proofs.Common.{◌≡◌, ℕ, ◌-◌, ◌<◌, ◌≤◌, Bool, true, false, cond, ◌&&◌, eqb, ltb, leb, ◌⊎◌, List, get_or, set, Some, None, Ok, Option, sym, refl, ap, ◌∙◌, subst, inl, inr, arith}
 use Rattle.keys.specs.Routes.{chunk_at}
 use Rattle.std.specs.List.{slice_get}
 use Rattle.std.proofs.lemmas.Bool.{and_parts, leb-true, leb-false, ltb-true, ltb-false, eqb-true, eqb-false, true≢false, false≢true}
-use Rattle.panel.specs.declared.Refusal.{Refusal}
 use Rattle.panel.specs.declared.Refusal.TheVariants.{MemoryUnfit, ListFull}
 use Rattle.mains.specs.Lists.{listed, unlisted}
 use Rattle.mains.specs.Nodes.{branch_at, removed, replaced}
@@ -17,13 +16,12 @@ use Rattle.rules.specs.Edits.{kept_node, kept_list}
 use Rattle.rules.specs.Memory.{Memory, main_at}
 use Rattle.rules.specs.Reached.{is_tomb}
 use Rattle.rules.specs.Seats.{is_idle, is_cut, is_put, last_cell, parent_cell, restarted, grown, dropped, at_tomb, moved}
-use Rattle.rules.specs.Sound.{sound, sound_list, all_alike, pairs_at}
-use Rattle.rules.specs.Turns.{Look, look, reads as read_of, swaps as swapOf, saw_main, saw_word, swapped_word, at_nothing, at_equal, at_other, not_listed, listed_at, place_of, at_place, climbed, gives_up, climbs, at_parent, swung, missed, after_swap, after_clean, at_pair, at_branch, at_list, read_plan, parent_plan, decide, decided, keyed}
+use Rattle.rules.specs.Sound.{sound, all_alike, pairs_at}
+use Rattle.rules.specs.Turns.{Look, look, reads as read_of, swaps as swapOf, saw_main, saw_word, swapped_word, at_nothing, at_equal, at_other, not_listed, listed_at, place_of, at_place, climbed, gives_up, climbs, at_parent, swung, missed, at_pair, at_branch, at_list, read_plan, parent_plan, decide, decided, keyed}
 use Rattle.rules.specs.declared.Ask.{Ask}
 use Rattle.rules.specs.declared.Ask.TheVariants.{Get, Put, Cut}
 use Rattle.rules.specs.declared.Edit.{Edit}
 use Rattle.rules.specs.declared.Edit.TheVariants.{Fixed, Insert, Replace, Append, Relist, Split}
-use Rattle.rules.specs.declared.Fork.{Fork}
 use Rattle.rules.specs.declared.Outcome.{Outcome}
 use Rattle.rules.specs.declared.Outcome.TheVariants.{Found, Absent, Stored, Removed}
 use Rattle.rules.specs.declared.Pair.{Pair}

@@ -1,11 +1,11 @@
 -- Every turn of an open seat is, on the state shown, a turn of the machine.
-use Rattle.std.proofs.Common.{◌≡◌, ℕ, zero, suc, ◌+◌, ◌-◌, ◌<◌, ◌≤◌, Bool, true, false, cond, ◌&&◌, ◌⊎◌, List, [], ◌∷◌, length, get_or, set, Some, None, sym, refl, ap, ◌∙◌, subst, inl, inr, arith, get_or-set_other, get_or-set_same}
+use Rattle.std.proofs.Common.{◌≡◌, ℕ, zero, suc, ◌-◌, ◌<◌, ◌≤◌, Bool, true, false, ◌⊎◌, List, [], ◌∷◌, length, get_or, set, Some, None, sym, refl, ap, ◌∙◌, subst, inl, inr, arith}
 use mathlib.Core.Option.{none, some}
 use Rattle.keys.specs.Laws.{KeyLaws}
 use Rattle.keys.specs.Routes.{chunk_at}
 use Rattle.std.specs.List.{slice_get}
 use Rattle.std.proofs.lemmas.Bool.{true≢false, false≢true}
-use Rattle.machine.specs.Machine.{Main as Shape, Seat as Place, Op, get, put, cut, cutting, climb, key, plain, gives, Entry, idle, read, swap, parent, clean, word, main, view, face, tomb as tombed, IsTomb, value, stored}
+use Rattle.machine.specs.Machine.{Seat as Place, Op, get, climb, plain, Entry, idle, read, parent, word, main, view, face, IsTomb, value}
 use Rattle.machine.specs.Tree.{stands, on, find}
 use Rattle.machine.specs.Turn.{Turn, Goes, returns, again, swept, dropped as droppedTo}
 use Rattle.mains.specs.Nodes.{branch_at}
@@ -15,18 +15,18 @@ use Rattle.mains.specs.declared.Main.TheVariants.{Node as node, Tomb as tomb, Li
 use Rattle.mains.specs.declared.Node.{Node}
 use Rattle.mains.specs.declared.PairList.{PairList}
 use Rattle.rules.specs.Edits.{first, rest}
-use Rattle.rules.specs.Memory.{Memory, State, main_in, main_at, then}
+use Rattle.rules.specs.Memory.{Memory, State, main_at, then}
 use Rattle.rules.specs.Perform.{seated, worded}
 use Rattle.rules.specs.Reached.{is_tomb}
-use Rattle.rules.specs.Seats.{seat_of, idle_seat, is_idle, is_put, is_cut, last_cell, parent_cell, settled_seat, restarted, grown, dropped, at_tomb, moved}
+use Rattle.rules.specs.Seats.{seat_of, idle_seat, is_idle, is_put, is_cut, settled_seat, restarted, grown, dropped, at_tomb, moved}
 use Rattle.rules.specs.Theorem.{StampedCall}
 use Rattle.rules.specs.declared.Ask.{Ask}
 use Rattle.rules.specs.declared.Ask.TheVariants.{Get, Put, Cut}
 use Rattle.rules.specs.declared.Figures.{Figures}
 use Rattle.rules.specs.declared.Outcome.{Outcome}
-use Rattle.rules.specs.declared.Outcome.TheVariants.{Found, Absent, Stored, Removed}
+use Rattle.rules.specs.declared.Outcome.TheVariants.{Found, Absent}
 use Rattle.rules.specs.declared.Phase.{Phase}
-use Rattle.rules.specs.declared.Phase.TheVariants.{Idle, Read, Swap, Climb, Parent, Clean}
+use Rattle.rules.specs.declared.Phase.TheVariants.{Read, Swap, Climb, Parent, Clean}
 use Rattle.rules.specs.declared.Seat.{Seat}
 use Rattle.theory.proofs.Finding.{lacks_find, has_find, cell_shown}
 use Rattle.theory.proofs.Ground.{Ground}
@@ -34,11 +34,11 @@ use Rattle.theory.proofs.Holding.{in_seats as shown_in, seat_shown}
 use Rattle.theory.proofs.Passing.{key_asked, key_calling, length_above, nearest, above_two}
 use Rattle.theory.proofs.Reaching.{shows, named}
 use Rattle.theory.proofs.Seating.{above, last_of, above_of, swapping, calling, shown_as, shown_seat, shown_state}
-use Rattle.theory.proofs.ShownMemory.{shows_memory, read_at}
-use Rattle.theory.proofs.Sights.{Holds, Lacks, Has, Leaves, Unnamed}
+use Rattle.theory.proofs.ShownMemory.{shows_memory}
+use Rattle.theory.proofs.Sights.{Holds, Lacks, Has, Unnamed}
 use Rattle.theory.proofs.Steady.{in_limits_seats}
-use Rattle.theory.proofs.Turning.{Moved, stays, going_on, fixed_as, fixing, asked_plain, plain_swapping, gives_hoped, hopes_fit, path_more, dropped_on, dropped_out, returns_asked, again_asked}
-use Rattle.theory.specs.Fed.{asked, result_of, entries_of, fits}
+use Rattle.theory.proofs.Turning.{Moved, going_on, fixed_as, fixing, asked_plain, plain_swapping, gives_hoped, hopes_fit, path_more, dropped_on, dropped_out, returns_asked, again_asked}
+use Rattle.theory.specs.Fed.{asked, result_of, fits}
 use Rattle.theory.specs.Records.{Kept, is_up}
 use Rattle.theory.specs.Shown.{shown_mem, shown_main}
 

@@ -1,5 +1,5 @@
 -- The pairs reached are those of the plain map, and at rest the trie is compact.
-use Rattle.std.proofs.Common.{◌≡◌, ℕ, ◌≤◌, Bool, true, false, cond, T, List, [], ◌∷◌, length, Some, sym, refl, ap, ◌∙◌, subst, inl, inr, mod-eq_of_lt, arith}
+use Rattle.std.proofs.Common.{◌≡◌, ℕ, ◌≤◌, Bool, true, false, T, List, length, Some, sym, refl, ap, ◌∙◌, subst, mod-eq_of_lt, arith}
 use mathlib.Core.List.{Memᴰ}
 use Rattle.keys.specs.Laws.{KeyLaws}
 use Rattle.keys.proofs.Chunks.{prefix_by_chunks}
@@ -20,11 +20,8 @@ use Rattle.rules.proofs.Counting.{counted}
 use Rattle.rules.proofs.Following.{followed}
 use Rattle.rules.proofs.Naming.{some_is, sound_in_lem}
 use Rattle.rules.specs.Memory.{State}
-use Rattle.rules.specs.PlainMap.{without, map_after}
 use Rattle.rules.specs.Reached.{ReachedPair, ReachedTomb, StandsFor, HowMany, is_tomb}
 use Rattle.rules.specs.Theorem.{StampedCall, fed, Holds, SharedBy, Compact, AtRest}
-use Rattle.rules.specs.declared.Ask.{Ask}
-use Rattle.rules.specs.declared.Ask.TheVariants.{Get, Put, Cut}
 use Rattle.rules.specs.declared.Figures.{Figures}
 use Rattle.rules.specs.declared.Pair.{Pair}
 use Rattle.theory.proofs.Feeding.{feeds_pair}
@@ -32,13 +29,13 @@ use Rattle.theory.proofs.Faces.{at_named, names_shown, shown_names}
 use Rattle.theory.proofs.Ground.{Ground}
 use Rattle.theory.proofs.Homes.{shows_at, answered, found, one_home}
 use Rattle.theory.proofs.Lengths.{tells}
-use Rattle.theory.proofs.Matching.{Beside, placed, as_many, of_place, of_held, one_pair, once_placed}
+use Rattle.theory.proofs.Matching.{Beside, placed, as_many, of_place, of_held, once_placed}
 use Rattle.theory.proofs.Placing.{main_shown, reaches, reached, pair_there, home}
 use Rattle.theory.proofs.Reaching.{shows_reach}
 use Rattle.theory.proofs.Seating.{shown_state}
 use Rattle.theory.proofs.ShownMemory.{shows_memory}
 use Rattle.theory.proofs.Using.{intact, reached_leads}
-use Rattle.theory.specs.Fed.{asked, entries_of}
+use Rattle.theory.specs.Fed.{entries_of}
 use Rattle.theory.specs.Shown.{shown_main, shown_mem}
 
 -- A tomb is shown as one.

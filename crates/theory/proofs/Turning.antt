@@ -1,28 +1,22 @@
 -- A turn that prepares nothing is, on the state shown, a turn of the machine.
-use Rattle.std.proofs.Common.{◌≡◌, ℕ, zero, suc, ◌+◌, ◌-◌, ◌<◌, ◌≤◌, Bool, true, false, cond, ◌⊎◌, List, [], ◌∷◌, length, get_or, set, Some, None, Option, sym, refl, ap, ◌∙◌, subst, inl, inr, arith, length-set, get_or-set_other, get_or-set_same}
+use Rattle.std.proofs.Common.{◌≡◌, ℕ, zero, suc, ◌+◌, ◌-◌, ◌<◌, ◌≤◌, Bool, true, false, ◌⊎◌, List, [], ◌∷◌, length, get_or, set, Some, sym, refl, ap, ◌∙◌, inl, inr, arith, length-set, get_or-set_other, get_or-set_same}
 use mathlib.Core.List.{Memᴰ}
-use mathlib.Core.Option.{Option as Maybe, none, some}
-use Rattle.keys.specs.Laws.{KeyLaws}
+use mathlib.Core.Option.{none, some}
 use Rattle.keys.specs.Routes.{chunk_at}
 use Rattle.std.specs.List.{slice_get}
-use Rattle.std.proofs.lemmas.Bool.{cases_eq, true≢false, false≢true}
-use Rattle.machine.specs.Machine.{Seat as Place, Op, get, put, cut, cutting, climb, plain, gives, idle, read, parent, Entry}
-use Rattle.machine.specs.Turn.{Turn, Turns, Goes, IsPlain, returns, again, swept, dropped as droppedTo}
+use Rattle.std.proofs.lemmas.Bool.{cases_eq}
+use Rattle.machine.specs.Machine.{Seat as Place, cutting, climb, plain, gives, idle, read}
+use Rattle.machine.specs.Turn.{Turn, Turns, IsPlain, returns, again, dropped as droppedTo}
 use Rattle.rules.proofs.Naming.{some_is}
-use Rattle.rules.specs.Edits.{first, rest}
 use Rattle.rules.specs.Memory.{Memory, State}
 use Rattle.rules.specs.Perform.{seated}
-use Rattle.rules.specs.Seats.{seat_of, idle_seat, is_idle, is_cut, dropped, restarted}
+use Rattle.rules.specs.Seats.{seat_of, idle_seat, is_idle, dropped}
 use Rattle.rules.specs.Theorem.{StampedCall}
 use Rattle.rules.specs.declared.Ask.{Ask}
 use Rattle.rules.specs.declared.Ask.TheVariants.{Get, Put, Cut}
 use Rattle.rules.specs.declared.Outcome.{Outcome}
-use Rattle.rules.specs.declared.Phase.{Phase}
-use Rattle.rules.specs.declared.Phase.TheVariants.{Climb, Clean}
-use Rattle.rules.specs.declared.Plan.{Plan}
 use Rattle.rules.specs.declared.Seat.{Seat}
-use Rattle.theory.proofs.Passing.{nearest}
-use Rattle.theory.proofs.Seating.{above, last_of, above_of, taken_out, swapping, calling, shown_as, shown_seat, shown_state, Shows}
+use Rattle.theory.proofs.Seating.{above, above_of, taken_out, swapping, shown_seat, shown_state, Shows}
 use Rattle.theory.proofs.Writing.{Hopes}
 use Rattle.theory.specs.Fed.{asked, result_of, entries_of, fits, Fitting}
 use Rattle.theory.specs.Shown.{shown_mem}

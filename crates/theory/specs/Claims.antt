@@ -2,7 +2,7 @@
 use Rattle.std.specs.Prelude.{◌≡◌, ℕ, Bool, [], None}
 use Rattle.keys.specs.Laws.{KeyLaws}
 use Rattle.rules.specs.Calls.{format_refusal, formatted}
-use Rattle.rules.specs.History.{History, Does, Runs}
+use Rattle.rules.specs.History.{Does, Runs}
 use Rattle.rules.specs.Memory.{Memory, State}
 use Rattle.rules.specs.Theorem.{Stands, Lawful}
 use Rattle.rules.specs.declared.Call.{Call}

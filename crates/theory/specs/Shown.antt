@@ -1,5 +1,5 @@
 -- The packed mains and the memory of the rules, shown as the mains and the memory of the loose machine, and what the showing keeps.
-use Rattle.std.specs.Prelude.{◌≡◌, ℕ, zero, suc, ◌<◌, ◌≤◌, ◌≢◌, List, [], ◌∷◌, ◌++◌, map, length, get_or, take, set, replicate, Some, None, Option, slice_index_or, slice_set}
+use Rattle.std.specs.Prelude.{◌≡◌, ℕ, zero, suc, ◌<◌, ◌≤◌, ◌≢◌, List, [], ◌∷◌, ◌++◌, map, length, get_or, take, replicate, Some, None, Option, slice_index_or, slice_set}
 use Rattle.std.proofs.Math.Option.{none, some}
 use Rattle.std.specs.List.{slice_get, remove as without}
 use Rattle.machine.specs.Machine.{Branch as Slot, nothing, pair, cell, Taken, Main as Shape, node, tomb, many, Mem, word, main}

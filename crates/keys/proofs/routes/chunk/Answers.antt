@@ -1,4 +1,4 @@
-use Rattle.std.proofs.Common.{◌*◌, ◌/◌, ◌^◌, ◌<◌, sym, arith, lit<}
+use Rattle.std.proofs.Common.{◌*◌, ◌/◌, ◌^◌, sym, arith, lit<}
 use Rattle.std.proofs.lemmas.Nat.{and_mask}
 use Rattle.keys.proofs.Chunks.{chunk_below, chunk_past}
 use Rattle.keys.proofs.routes.chunk.Goals as goal

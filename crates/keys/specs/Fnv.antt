@@ -14,7 +14,7 @@ fold_below (b ∷ bytes) h k = fold_below bytes (fnv_step h b) (mod_below (bit_x
 pub fnv_below : (bytes : List ℕ) → fnv1a bytes < 2 ^ 32
 fnv_below bytes = fold_below bytes 0x811C9DC5 (lit< tt)
 
--- A test that decides whether two lists are the same is `sameBytes` of what the lists are.
+-- A test that decides whether two lists are the same is `bytes_eq` of what the lists are.
 pub same_by : (xs ys us vs : List ℕ) (r : Bool) → Decides r (xs ≡ ys) → xs ≡ us → ys ≡ vs → r ≡ bytes_eq us vs
 same_by xs ys us vs r d p q =
     let e : r ≡ bytes_eq xs ys = search (rules, bytes_eq-Decides) in

@@ -4,3 +4,4 @@ pub mod Presses
 pub mod Codes
 pub mod Routes
 pub mod Fnv
+pub mod Cards

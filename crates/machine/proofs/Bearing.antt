@@ -113,7 +113,7 @@ module _ {K : Type 0} (same : K → K → Bool) (hash : K → ℕ) (chunk : ℕ 
   pub prepares_bears : {m : Mem K} {X : Main} {a : ℕ} {o : Op K} {Y : Main} {mp : Option ℕ} {new : List (ℕ × ℕ)} → Prepares same hash chunk m X a o Y mp new
       → ((p : ℕ) → HasPair X p → (x : K × ℕ) × (nth m.pairs p ≡ some x)) → Bears same m.pairs X (chunk (hash (key o)) a) o
   prepares_bears (Prepares.adds k v bs p x l z slot) f = tt
-  prepares_bears (Prepares.replaces k v bs r p x xe l z slot y slot-p) f = record { all = x ∷ []; pair = x; shown = rw (xe, z, slot); among = here; equal = y }
+  prepares_bears (Prepares.replaces k v bs r p x xe l z slot y slot_p) f = record { all = x ∷ []; pair = x; shown = rw (xe, z, slot); among = here; equal = y }
   prepares_bears (Prepares.extends k v ps p xe ab slot short) f = tt
   prepares_bears {m = m} (Prepares.alters k v ps qs p xe slot np nq len ip names old kept) f =
       let x = altered m.pairs k v ps qs p (λ r j. f r (rw xe j)) slot np len ip kept in
@@ -121,5 +121,5 @@ module _ {K : Type 0} (same : K → K → Bool) (hash : K → ℕ) (chunk : ℕ 
   prepares_bears (Prepares.shrinks k ps qs x xe ix tx np nq two len names old off kept) f = tt
   prepares_bears (Prepares.buries k ps r x z xe ix tx np ir slot iz nz all pos) f = tt
   prepares_bears (Prepares.drops k bs p x xe l z slot y stays) f = tt
-  prepares_bears (Prepares.entombs k bs p x r q y xe z slot u ne zr slot-r others pos) f = tt
-  prepares_bears (Prepares.splits k v bs r p x d n rest xe l z slot apart slot-p chain) f = tt
+  prepares_bears (Prepares.entombs k bs p x r q y xe z slot u ne zr slot_r others pos) f = tt
+  prepares_bears (Prepares.splits k v bs r p x d n rest xe l z slot apart slot_p chain) f = tt

@@ -158,7 +158,7 @@ module _ {K : Type 0} (same : K → K → Bool) (hash : K → ℕ) (chunk : ℕ 
   dropped_ok : (m : Mem K) → (IsTomb (main m (word m 0)) → ⊥) → (y : Seat K) (k : K) (d : ℕ) (cs : List ℕ) → path y ≡ d ∷ cs
       → Trail same hash chunk m k cs
       → ((h i : ℕ) → walk chunk (view m) h i ≡ some d → IsTomb (main m (word m d)) → ⊥) → GoesOK m y (dropped k cs)
-  dropped_ok m r y k d cs p z no-d = record {
+  dropped_ok m r y k d cs p z no_d = record {
     trail = dropped_trail m k cs z;
     extra = dropped_extra m k cs;
     makes = dropped_makes k cs;
@@ -167,7 +167,7 @@ module _ {K : Type 0} (same : K → K → Bool) (hash : K → ℕ) (chunk : ℕ 
   }
     where
       go : (h i c : ℕ) → walk chunk (view m) h i ≡ some c → IsTomb (main m (word m c)) → In c (d ∷ cs) → Settled (dropped k cs) × In c (path (dropped k cs))
-      go h i c w t (In.here) = absurd (no-d h i w t)
+      go h i c w t (In.here) = absurd (no_d h i w t)
       go h i c w t (In.later j) = dropped_keeps m r k cs z h i c w t j
 
   -- The last cell of a settled cut is named no more, so it is not reached.

@@ -26,14 +26,14 @@ module _ {K : Type 0} (same : K → K → Bool) (hash : K → ℕ) (chunk : ℕ 
   -- Only a cut prepares a tomb, and below the root.
   prepares_cuts : {m : Mem K} {X : Main} {a : ℕ} {o : Op K} {Y : Main} {mp : Option ℕ} {new : List (ℕ × ℕ)} → Prepares same hash chunk m X a o Y mp new → IsTomb Y → IsCutting o × (0 < a)
   prepares_cuts (Prepares.adds k v bs p x l z slot) t = absurd t
-  prepares_cuts (Prepares.replaces k v bs r p x xe l z slot y slot-p) t = absurd t
+  prepares_cuts (Prepares.replaces k v bs r p x xe l z slot y slot_p) t = absurd t
   prepares_cuts (Prepares.extends k v ps p xe ab slot short) t = absurd t
   prepares_cuts (Prepares.alters k v ps qs p xe slot np nq len ip names old kept) t = absurd t
   prepares_cuts (Prepares.shrinks k ps qs x xe ix tx np nq two len names old off kept) t = absurd t
   prepares_cuts (Prepares.buries k ps r x z xe ix tx np ir slot iz nz all pos) t = (tt, pos)
   prepares_cuts (Prepares.drops k bs p x xe l z slot y stays) t = absurd t
-  prepares_cuts (Prepares.entombs k bs p x r q y xe z slot u ne zr slot-r others pos) t = (tt, pos)
-  prepares_cuts (Prepares.splits k v bs r p x d n rest xe l z slot apart slot-p chain) t = absurd t
+  prepares_cuts (Prepares.entombs k bs p x r q y xe z slot u ne zr slot_r others pos) t = (tt, pos)
+  prepares_cuts (Prepares.splits k v bs r p x d n rest xe l z slot apart slot_p chain) t = absurd t
 
   -- New cells hold no tomb.
   chain_solid : {m : Mem K} {k : K} {r p : ℕ} {x : K × ℕ} {i : ℕ} {new : List (ℕ × ℕ)} → Chain same hash chunk m k r p x i new
@@ -48,14 +48,14 @@ module _ {K : Type 0} (same : K → K → Bool) (hash : K → ℕ) (chunk : ℕ 
   prepares_new : {m : Mem K} {X : Main} {a : ℕ} {o : Op K} {Y : Main} {mp : Option ℕ} {new : List (ℕ × ℕ)} → Prepares same hash chunk m X a o Y mp new
       → (t d y : ℕ) → nth new t ≡ some (d, y) → IsTomb (main m y) → ⊥
   prepares_new (Prepares.adds k v bs p x l z slot) t d y q i = no_some q
-  prepares_new (Prepares.replaces k v bs r p x xe l z slot yy slot-p) t d y q i = no_some q
+  prepares_new (Prepares.replaces k v bs r p x xe l z slot yy slot_p) t d y q i = no_some q
   prepares_new (Prepares.extends k v ps p xe ab slot short) t d y q i = no_some q
   prepares_new (Prepares.alters k v ps qs p xe slot np nq len ip names old kept) t d y q i = no_some q
   prepares_new (Prepares.shrinks k ps qs x xe ix tx np nq two len names old off kept) t d y q i = no_some q
   prepares_new (Prepares.buries k ps r x z xe ix tx np ir slot iz nz all pos) t d y q i = no_some q
   prepares_new (Prepares.drops k bs p x xe l z slot yy stays) t d y q i = no_some q
-  prepares_new (Prepares.entombs k bs p x r qq yy xe z slot u ne zr slot-r others pos) t d y q i = no_some q
-  prepares_new (Prepares.splits k v bs r p x dd n rest xe l z slot apart slot-p chain) t d y q i = chain_solid chain t d y q i
+  prepares_new (Prepares.entombs k bs p x r qq yy xe z slot u ne zr slot_r others pos) t d y q i = no_some q
+  prepares_new (Prepares.splits k v bs r p x dd n rest xe l z slot apart slot_p chain) t d y q i = chain_solid chain t d y q i
 
   -- A cleaning prepares a tomb only below the root, and leaves no cell at the chunk.
   cleans_below : {X : Main} {a : ℕ} {k : K} {d p : ℕ} {Y : Main} → Cleans same hash chunk X a k d p Y → IsTomb Y → 0 < a
@@ -118,7 +118,7 @@ module _ {K : Type 0} (same : K → K → Bool) (hash : K → ℕ) (chunk : ℕ 
       (pend : Pend same hash chunk R s.mem k c cs e n mp td new) (holds : word s.mem c ≡ e)
       (unlinked : (d f : ℕ) → td ≡ some d → HasCell (main s.mem n) (chunk (hash k) (length cs)) f → ⊥)
       (below_root : IsTomb (main s.mem n) → 0 < length cs)
-      (new-solid : (u d x : ℕ) → nth new u ≡ some (d, x) → IsTomb (main s.mem x) → ⊥)
+      (new_solid : (u d x : ℕ) → nth new u ≡ some (d, x) → IsTomb (main s.mem x) → ⊥)
       (makes_cell : (d : ℕ) → (u x : ℕ) × (nth new u ≡ some (d, x)) → MakesCell (seat s t) d) where
     abbrev m' : Mem K
     m' = swung s.mem c n
@@ -169,7 +169,7 @@ module _ {K : Type 0} (same : K → K → Bool) (hash : K → ℕ) (chunk : ℕ 
         own h j d z (no ne) (inl v) = inl (i.owned h j d v (tomb_there d ne z))
         own h j d z (no ne) (inr v) =
             let y = nth_cells new v.0 d v.1 in
-            absurd (new-solid v.0 d y.0 y.1 (rw (pend.holds v.0 d y.0 y.1) at (tomb_there d ne z)))
+            absurd (new_solid v.0 d y.0 y.1 (rw (pend.holds v.0 d y.0 y.1) at (tomb_there d ne z)))
 
     -- Whoever cleans: who owned the tomb owns the cell above it, if that becomes a tomb.
     helped : (d : ℕ) → td ≡ some d → Owner s.seats c

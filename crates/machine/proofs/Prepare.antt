@@ -144,12 +144,12 @@ module _ {K : Type 0} (same : K → K → Bool) (hash : K → ℕ) (chunk : ℕ 
         to : (r : ℕ) → HasPair (node bs) r ⊎ (pair p ≡ pair r) → HasPair (node bs) r ⊎ (some p ≡ some r)
         to r (inl y) = inl y
         to r (inr y) = inr (ap some (pair_is y))
-    prepares_pend Y my o mp new nw path pf (Prepares.replaces k v bs r p x xe l z slot t slot-p) =
+    prepares_pend Y my o mp new nw path pf (Prepares.replaces k v bs r p x xe l z slot t slot_p) =
         pend_of _ my (Does same hash chunk (renew k v)) k (some p) [] nw (node bs) xe (λ t. t) path pf
         (λ r y. to r (set_names bs (chunk (hash k) (length cs)) (pair p) r l y)) (λ t d x p z. absurd (no_some z))
         (ready_replaces same hash chunk laws k (length cs) (face m.pairs (node bs)) (face m.pairs (node (set bs (chunk (hash k) (length cs)) (pair p)))) (faces m [])
         (home_of k (length cs) c bs (reach k bs xe path) (main_c ∙ xe)) v x t (rw (z, slot))
-        (rw (spot_set_here bs (chunk (hash k) (length cs)) (pair p) l, slot-p)) (λ q ne. spot_set_there bs (chunk (hash k) (length cs)) q (pair p) ne))
+        (rw (spot_set_here bs (chunk (hash k) (length cs)) (pair p) l, slot_p)) (λ q ne. spot_set_there bs (chunk (hash k) (length cs)) q (pair p) ne))
       where
         to : (r : ℕ) → HasPair (node bs) r ⊎ (pair p ≡ pair r) → HasPair (node bs) r ⊎ (some p ≡ some r)
         to r (inl y) = inl y
@@ -213,17 +213,17 @@ module _ {K : Type 0} (same : K → K → Bool) (hash : K → ℕ) (chunk : ℕ 
         to : (r : ℕ) → HasPair (node bs) r ⊎ (nothing ≡ pair r) → HasPair (node bs) r ⊎ (none ≡ some r)
         to r (inl y) = inl y
         to r (inr y) = absurd (no_pair y)
-    prepares_pend Y my o mp new nw path pf (Prepares.entombs k bs p x r q y xe z slot t ne zr slot-r others pos) =
+    prepares_pend Y my o mp new nw path pf (Prepares.entombs k bs p x r q y xe z slot t ne zr slot_r others pos) =
         pend_of _ my (Does same hash chunk (cutting k x.1)) k none [] nw (node bs) xe (λ t. t) path pf
         (λ s u. inl (r, zr ∙ ap pair u)) (λ t d x p z. absurd (no_some z))
         (ready_entombs same hash chunk laws k (length cs) (face m.pairs (node bs)) (face m.pairs (tomb q)) (faces m [])
-        (home_of k (length cs) c bs (reach k bs xe path) (main_c ∙ xe)) x y r t ne (rw (z, slot)) (rw (zr, slot-r))
-        (λ j a b. rw (others j a b)) (λ j. rw slot-r))
-    prepares_pend Y my o mp new nw path pf (Prepares.splits k v bs r p x d n' rest xe l z slot apart slot-p chain) =
+        (home_of k (length cs) c bs (reach k bs xe path) (main_c ∙ xe)) x y r t ne (rw (z, slot)) (rw (zr, slot_r))
+        (λ j a b. rw (others j a b)) (λ j. rw slot_r))
+    prepares_pend Y my o mp new nw path pf (Prepares.splits k v bs r p x d n' rest xe l z slot apart slot_p chain) =
         pend_of _ my (Does same hash chunk (put k v)) k (some p) ((d, n') ∷ rest) nw (node bs) xe (λ t. t) path pf
         (λ s y. to s (set_names bs (chunk (hash k) (length cs)) (cell d) s l y))
-        (λ t f y s w h. to_new s (chain_names same hash chunk laws m k v r p x slot slot-p apart (suc (length cs)) ((d, n') ∷ rest) chain t f y s w h))
-        (ready_splits same hash chunk laws m k v r p x slot slot-p apart (length cs) (face m.pairs (node bs)) (face m.pairs (node (set bs (chunk (hash k) (length cs)) (cell d))))
+        (λ t f y s w h. to_new s (chain_names same hash chunk laws m k v r p x slot slot_p apart (suc (length cs)) ((d, n') ∷ rest) chain t f y s w h))
+        (ready_splits same hash chunk laws m k v r p x slot slot_p apart (length cs) (face m.pairs (node bs)) (face m.pairs (node (set bs (chunk (hash k) (length cs)) (cell d))))
         (home_of k (length cs) c bs (reach k bs xe path) (main_c ∙ xe)) d n' rest chain (rw (z, slot))
         (spot_set_here bs (chunk (hash k) (length cs)) (cell d) l) (λ q ne. spot_set_there bs (chunk (hash k) (length cs)) q (cell d) ne))
       where

@@ -61,7 +61,7 @@ module _ {K : Type 0} (same : K → K → Bool) (hash : K → ℕ) (chunk : ℕ 
     (new : (t e i g : ℕ) → nth cells t ≡ some e → walk chunk M g i ≡ some e → ⊥)
     (once : (t u e : ℕ) → nth cells t ≡ some e → nth cells u ≡ some e → t ≡ u)
     (new_face : (t e : ℕ) → nth cells t ≡ some e → (q : ℕ) → M e q ≡ E t q)
-    (new-flat : (t e q : ℕ) (ps : List (K × ℕ)) (x : K × ℕ) → nth cells t ≡ some e → E t q ≡ stands ps → In x ps → Level (E t) → FlatN e)
+    (new_flat : (t e q : ℕ) (ps : List (K × ℕ)) (x : K × ℕ) → nth cells t ≡ some e → E t q ≡ stands ps → In x ps → Level (E t) → FlatN e)
     (r : Ready same hash chunk R h a (M c) (N c) (FlatN c) td tomb cells E) where
   -- Such a swap is a graft.
   grafting : Graft hash chunk M N h a c cells (Gone td) FlatM FlatN
@@ -77,7 +77,7 @@ module _ {K : Type 0} (same : K → K → Bool) (hash : K → ℕ) (chunk : ℕ 
     short = r.short;
     homes = r.homes;
     flat = flat;
-    homes_new = λ t e q ps x y z i. let z' = sym (new_face t e y q) ∙ z in let w = r.homes_new t e q ps x y z' i in record { agrees = w.agrees; proper = flatten (new-flat t e q ps x y z' i) w.proper };
+    homes_new = λ t e q ps x y z i. let z' = sym (new_face t e y q) ∙ z in let w = r.homes_new t e q ps x y z' i in record { agrees = w.agrees; proper = flatten (new_flat t e q ps x y z' i) w.proper };
   }
     where
       flatten : {A B C : Type 0} → (C → B) → A ⊎ C → A ⊎ B

@@ -157,27 +157,27 @@ module _ {K : Type 0} (same : K → K → Bool) (hash : K → ℕ) (chunk : ℕ 
   pub prepares_new_rule : {m : Mem K} {X : Main} {a : ℕ} {o : Op K} {Y : Main} {mp : Option ℕ} {new : List (ℕ × ℕ)} → Prepares same hash chunk m X a o Y mp new
       → (t d y : ℕ) → nth new t ≡ some (d, y) → Rule same m.pairs (suc a + t) (main m y)
   prepares_new_rule (Prepares.adds k v bs p x l z slot) t d y q = absurd (no_some q)
-  prepares_new_rule (Prepares.replaces k v bs r p x xe l z slot yy slot-p) t d y q = absurd (no_some q)
+  prepares_new_rule (Prepares.replaces k v bs r p x xe l z slot yy slot_p) t d y q = absurd (no_some q)
   prepares_new_rule (Prepares.extends k v ps p xe ab slot short) t d y q = absurd (no_some q)
   prepares_new_rule (Prepares.alters k v ps qs p xe slot np nq len ip names old kept) t d y q = absurd (no_some q)
   prepares_new_rule (Prepares.shrinks k ps qs x xe ix tx np nq two len names old off kept) t d y q = absurd (no_some q)
   prepares_new_rule (Prepares.buries k ps r x z xe ix tx np ir slot iz nz all pos) t d y q = absurd (no_some q)
   prepares_new_rule (Prepares.drops k bs p x xe l z slot yy stays) t d y q = absurd (no_some q)
-  prepares_new_rule (Prepares.entombs k bs p x r qq yy xe z slot u ne zr slot-r others pos) t d y q = absurd (no_some q)
-  prepares_new_rule (Prepares.splits k v bs r p x dd n rest xe l z slot apart slot-p chain) t d y q = chain_rule v slot slot-p apart chain t d y q
+  prepares_new_rule (Prepares.entombs k bs p x r qq yy xe z slot u ne zr slot_r others pos) t d y q = absurd (no_some q)
+  prepares_new_rule (Prepares.splits k v bs r p x dd n rest xe l z slot apart slot_p chain) t d y q = chain_rule v slot slot_p apart chain t d y q
 
   -- The pair that is made is in the memory.
   pub prepares_slot : {m : Mem K} {X : Main} {a : ℕ} {o : Op K} {Y : Main} {mp : Option ℕ} {new : List (ℕ × ℕ)} → Prepares same hash chunk m X a o Y mp new
       → (s : ℕ) → mp ≡ some s → (x : K × ℕ) × (nth m.pairs s ≡ some x)
   prepares_slot (Prepares.adds k v bs p x l z slot) s q = let e : p ≡ s = cc in ((k, v), rw (← e) slot)
-  prepares_slot (Prepares.replaces k v bs r p x xe l z slot yy slot-p) s q = let e : p ≡ s = cc in ((k, v), rw (← e) slot-p)
+  prepares_slot (Prepares.replaces k v bs r p x xe l z slot yy slot_p) s q = let e : p ≡ s = cc in ((k, v), rw (← e) slot_p)
   prepares_slot (Prepares.extends k v ps p xe ab slot short) s q = let e : p ≡ s = cc in ((k, v), rw (← e) slot)
   prepares_slot (Prepares.alters k v ps qs p xe slot np nq len ip names old kept) s q = let e : p ≡ s = cc in ((k, v), rw (← e) slot)
   prepares_slot (Prepares.shrinks k ps qs x xe ix tx np nq two len names old off kept) s q = absurd (no_some q)
   prepares_slot (Prepares.buries k ps r x z xe ix tx np ir slot iz nz all pos) s q = absurd (no_some q)
   prepares_slot (Prepares.drops k bs p x xe l z slot yy stays) s q = absurd (no_some q)
-  prepares_slot (Prepares.entombs k bs p x r qq yy xe z slot u ne zr slot-r others pos) s q = absurd (no_some q)
-  prepares_slot (Prepares.splits k v bs r p x dd n rest xe l z slot apart slot-p chain) s q = let e : p ≡ s = cc in ((k, v), rw (← e) slot-p)
+  prepares_slot (Prepares.entombs k bs p x r qq yy xe z slot u ne zr slot_r others pos) s q = absurd (no_some q)
+  prepares_slot (Prepares.splits k v bs r p x dd n rest xe l z slot apart slot_p chain) s q = let e : p ≡ s = cc in ((k, v), rw (← e) slot_p)
 
   -- The main that a read prepares keeps the rules, if the main that was read does.
   pub prepares_rule : {m : Mem K} {X : Main} {a : ℕ} {o : Op K} {Y : Main} {mp : Option ℕ} {new : List (ℕ × ℕ)} → Prepares same hash chunk m X a o Y mp new
@@ -190,7 +190,7 @@ module _ {K : Type 0} (same : K → K → Bool) (hash : K → ℕ) (chunk : ℕ 
 
       other : 0 < a → (r : ℕ) × (r ≢ chunk (hash k) a) × Taken (get_or bs r nothing)
       other pos = let y = r'.any pos in (y.0, λ e. (rw (e, z) at y.1), y.1)
-  prepares_rule {a = a} (Prepares.replaces k v bs r' p x xe l z slot y slot-p) r =
+  prepares_rule {a = a} (Prepares.replaces k v bs r' p x xe l z slot y slot_p) r =
       let n : NodeRule a bs = rw xe at r in
       rule_set a bs (chunk (hash k) a) (pair p) n l (chunks.small (hash k) a) tt (λ u e pos. n.beside pos (chunk (hash k) a) r' z)
   prepares_rule {m = m} {a = a} (Prepares.extends k v ps p xe ab slot short) r =
@@ -211,8 +211,8 @@ module _ {K : Type 0} (same : K → K → Bool) (hash : K → ℕ) (chunk : ℕ 
       (n.0, two, omega arith, nq)
   prepares_rule (Prepares.buries k ps r' x z xe ix tx np ir slot iz nz all pos) r = omega arith
   prepares_rule {a = a} (Prepares.drops k bs p x xe l z slot y stays) r = rule_drop a bs (chunk (hash k) a) p (rw xe at r) l z stays
-  prepares_rule (Prepares.entombs k bs p x r' q y xe z slot u ne zr slot-r others pos) r = omega arith
-  prepares_rule {a = a} (Prepares.splits k v bs r' p x d n rest xe l z slot apart slot-p chain) r =
+  prepares_rule (Prepares.entombs k bs p x r' q y xe z slot u ne zr slot_r others pos) r = omega arith
+  prepares_rule {a = a} (Prepares.splits k v bs r' p x d n rest xe l z slot apart slot_p chain) r =
       rule_set a bs (chunk (hash k) a) (cell d) (rw xe at r) l (chunks.small (hash k) a) tt (λ u e. absurd (cell_pair e))
 
   -- So does the main that a cleaning prepares.

@@ -38,7 +38,7 @@ shift chunk m h qs y ys t i (stops l e) = stops l e
 shift chunk m h qs y ys t i (leads d e n w) = leads d e n (shift chunk m h qs y ys (suc t) (suc i) w)
 
 module _ {K : Type 0} (same : K → K → Bool) (hash : K → ℕ) (chunk : ℕ → ℕ → ℕ) (laws : Laws same hash) (m : Mem K) (k : K) (v r p : ℕ) (x : K × ℕ)
-    (slot-r : nth m.pairs r ≡ some x) (slot-p : nth m.pairs p ≡ some (k, v)) (apart : T (same x.0 k) → ⊥) where
+    (slot_r : nth m.pairs r ≡ some x) (slot_p : nth m.pairs p ≡ some (k, v)) (apart : T (same x.0 k) → ⊥) where
   -- What stands at a chunk of the last new cell.
   data Last (i q : ℕ) (F : Spot K) : Type 0 where
     old_pair : q ≡ chunk (hash x.0) i → F ≡ stands (x ∷ []) → Last i q F
@@ -52,8 +52,8 @@ module _ {K : Type 0} (same : K → K → Bool) (hash : K → ℕ) (chunk : ℕ 
   last i n bs e a b o q = go (ℕ_discrete q (chunk (hash x.0) i)) (ℕ_discrete q (chunk (hash k) i))
     where
       go : Dec (q ≡ chunk (hash x.0) i) → Dec (q ≡ chunk (hash k) i) → Last i q (face m.pairs (main m n) q)
-      go (yes y) z = old_pair y (rw (e, y, a, slot-r))
-      go (no y) (yes z) = new_pair z (rw (e, z, b, slot-p))
+      go (yes y) z = old_pair y (rw (e, y, a, slot_r))
+      go (no y) (yes z) = new_pair z (rw (e, z, b, slot_p))
       go (no y) (no z) = bare y z (rw (e, o q y z))
 
   -- What stands at a chunk of a new cell that leads on.
@@ -71,7 +71,7 @@ module _ {K : Type 0} (same : K → K → Bool) (hash : K → ℕ) (chunk : ℕ 
 
   -- The list at index 7.
   list_face : (n : ℕ) → main m n ≡ many (r ∷ p ∷ []) → (q : ℕ) → face m.pairs (main m n) q ≡ stands (x ∷ (k, v) ∷ [])
-  list_face n e q = rw (e, slot-r, slot-p)
+  list_face n e q = rw (e, slot_r, slot_p)
 
   -- A new cell names only the next one, at the key's chunk.
   pub chain_next : (i : ℕ) (new : List (ℕ × ℕ)) → Chain same hash chunk m k r p x i new → (t e q d : ℕ) → nth (cells new) t ≡ some e

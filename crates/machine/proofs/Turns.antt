@@ -185,14 +185,14 @@ module _ {K : Type 0} (same : K → K → Bool) (hash : K → ℕ) (chunk : ℕ 
   -- A swap is prepared only where no tomb was read.
   pub solid_prepares : {m : Mem K} {X : Main} {a : ℕ} {o : Op K} {Y : Main} {mp : Option ℕ} {new : List (ℕ × ℕ)} → Prepares same hash chunk m X a o Y mp new → IsTomb X → ⊥
   solid_prepares (Prepares.adds k v bs p x l z slot) t = rw x at t
-  solid_prepares (Prepares.replaces k v bs r p x xe l z slot y slot-p) t = rw xe at t
+  solid_prepares (Prepares.replaces k v bs r p x xe l z slot y slot_p) t = rw xe at t
   solid_prepares (Prepares.extends k v ps p xe ab slot short) t = rw xe at t
   solid_prepares (Prepares.alters k v ps qs p xe slot np nq len ip names old kept) t = rw xe at t
   solid_prepares (Prepares.shrinks k ps qs x xe ix tx np nq two len names old off kept) t = rw xe at t
   solid_prepares (Prepares.buries k ps r x z xe ix tx np ir slot iz nz all pos) t = rw xe at t
   solid_prepares (Prepares.drops k bs p x xe l z slot y stays) t = rw xe at t
-  solid_prepares (Prepares.entombs k bs p x r q y xe z slot u ne zr slot-r others pos) t = rw xe at t
-  solid_prepares (Prepares.splits k v bs r p x d n rest xe l z slot apart slot-p chain) t = rw xe at t
+  solid_prepares (Prepares.entombs k bs p x r q y xe z slot u ne zr slot_r others pos) t = rw xe at t
+  solid_prepares (Prepares.splits k v bs r p x d n rest xe l z slot apart slot_p chain) t = rw xe at t
 
   pub solid_cleans : {X : Main} {a : ℕ} {k : K} {d p : ℕ} {Y : Main} → Cleans same hash chunk X a k d p Y → IsTomb X → ⊥
   solid_cleans (Cleans.contracts bs x l z more) t = rw x at t

@@ -53,7 +53,7 @@ module _ (n m : Node) (q : ℕ) (nw : WellFormed n) (mw : WellFormed m) where
       (beside n m q mw g (subst (λ row. Opens filler n.branches row i) (sym e) (in_opens n.branches i x within filler)))
 
   replacement : (x : Branch) → bit n.bitmap q ≡ 1 → m.bitmap ≡ n.bitmap → m.branches ≡ set n.branches (position n.bitmap q) x → Stands m (edited (branch_at n) q (Some x))
-  replacement x set-q f e = stands_from m (branch_at n) q (Some x) here (λ p ne. at_same n m p (ap (λ c. bit c p) f) (λ s. other p s ne))
+  replacement x set_q f e = stands_from m (branch_at n) q (Some x) here (λ p ne. at_same n m p (ap (λ c. bit c p) f) (λ s. other p s ne))
     where
       b : ℕ
       b = n.bitmap
@@ -63,11 +63,11 @@ module _ (n m : Node) (q : ℕ) (nw : WellFormed n) (mw : WellFormed m) where
 
       here : branch_at m q ≡ Some x
       here =
-          at_set m q (ap (λ c. bit c q) f ∙ set-q)
-          ∙ ap Some (kept q ∙ get_or-set_same n.branches (position b q) x filler (placed n q nw (bit_low b q nw.fits set-q)))
+          at_set m q (ap (λ c. bit c q) f ∙ set_q)
+          ∙ ap Some (kept q ∙ get_or-set_same n.branches (position b q) x filler (placed n q nw (bit_low b q nw.fits set_q)))
 
       other : (p : ℕ) → bit b p ≡ 1 → p ≢ q → get_or m.branches (position m.bitmap p) filler ≡ get_or n.branches (position b p) filler
-      other p s ne = kept p ∙ get_or-set_other n.branches (position b q) (position b p) x filler (position_apart b p q s set-q ne)
+      other p s ne = kept p ∙ get_or-set_other n.branches (position b q) (position b p) x filler (position_apart b p q s set_q ne)
 
   removal : Gains m.bitmap q n.bitmap → m.branches ≡ take_out n.branches (position n.bitmap q) filler → Stands m (edited (branch_at n) q None)
   removal g e =

@@ -25,7 +25,7 @@ pub two_formed : (q : ℕ) (x : Branch) (r : ℕ) (y : Branch) → WellFormed (o
 two_formed q x r y = inserted_formed (of_one q x) r y (one_formed q x)
 
 pub two_stands : (q : ℕ) (x : Branch) (r : ℕ) (y : Branch) → q < 32 → r < 32 → q ≢ r → Both (of_two q x r y) q x r y
-two_stands q x r y q-low r-low ne p =
-    let one = one_stands q x q-low in
+two_stands q x r y q_low r_low ne p =
+    let one = one_stands q x q_low in
     let none = one r ∙ edited_other nothing q (Some x) r (λ e. ne (sym e)) in
-    inserted_stands (of_one q x) r y (one_formed q x) r-low none p ∙ ap (cond (eqb p r) (Some y)) (one p)
+    inserted_stands (of_one q x) r y (one_formed q x) r_low none p ∙ ap (cond (eqb p r) (Some y)) (one p)

@@ -138,19 +138,19 @@ module _ {K : Type 0} (same : K → K → Bool) (hash : K → ℕ) (m : Memory K
 
   reached_level : (index c : ℕ) → Reached same hash m index c → Memᴰ c (level same hash m index)
   reached_level index c (Reached.root l) = in_inside 0 (0 ∷ []) (mathlib.Core.List.Memᴰ.head refl) l
-  reached_level index c (Reached.next {index = i} {c = a} k x e d named-there within) =
-      in_inside d (named same hash m cells_of i (level same hash m i)) (in_named cells_of i d a x (level same hash m i) (reached_level i a k) e named-there) within
+  reached_level index c (Reached.next {index = i} {c = a} k x e d named_there within) =
+      in_inside d (named same hash m cells_of i (level same hash m i)) (in_named cells_of i d a x (level same hash m i) (reached_level i a k) e named_there) within
 
   reached_inside : (index c : ℕ) → Reached same hash m index c → c < length m.words
   reached_inside index c (Reached.root l) = l
-  reached_inside index c (Reached.next k x e d named-there within) = within
+  reached_inside index c (Reached.next k x e d named_there within) = within
 
   -- No cell is reached past index 7.
   pub reached_low : (index c : ℕ) → Reached same hash m index c → index < 8
   reached_low index c (Reached.root l) = omega arith
-  reached_low index c (Reached.next {index = i} {c = a} k (node n) e d named-there within) = let l = node_high same hash m i a n e in omega arith
-  reached_low index c (Reached.next k (tomb p) e d named-there within) = elim named-there [ ]
-  reached_low index c (Reached.next k (listing l) e d named-there within) = elim named-there [ ]
+  reached_low index c (Reached.next {index = i} {c = a} k (node n) e d named_there within) = let l = node_high same hash m i a n e in omega arith
+  reached_low index c (Reached.next k (tomb p) e d named_there within) = elim named_there [ ]
+  reached_low index c (Reached.next k (listing l) e d named_there within) = elim named_there [ ]
 
   cells : HowMany (ReachedCell same hash m) (cell_count same hash m)
   unfolding cell_count

@@ -74,7 +74,7 @@ module _ {K : Type 0} (same : K → K → Bool) (hash : K → ℕ) (m : Memory K
       let before = leads i p a k in
       let small = before.0 in
       let h = p + q * 2 ^ (5 * i) in
-      let same-walk =
+      let same_walk =
       walk_together h p i
       ((prefix_by_chunks h p i).chunks (prefix_there p q i small low ∙ sym (mod-eq_of_lt small))) in
       let t = lt-ltb d (length m.words) inside in
@@ -82,7 +82,7 @@ module _ {K : Type 0} (same : K → K → Bool) (hash : K → ℕ) (m : Memory K
       ap (λ o. cell_below same hash m o (chunk_at h i)) e
       ∙ (ap (λ x. cell_by same hash m (branch_at n x)) (chunk_there p q i small low) ∙ (ap (cell_by same hash m) b ∙ ap (λ u. cond u (Some d) None) t)) in (
         below_there p q i small low,
-        ap (λ o. then o (λ c. cell_below same hash m (sound_in same hash m i c) (chunk_at h i))) (same-walk ∙ before.1) ∙ step,
+        ap (λ o. then o (λ c. cell_below same hash m (sound_in same hash m i c) (chunk_at h i))) (same_walk ∙ before.1) ∙ step,
       )
 
   stands : (index h c : ℕ) → walk same hash m h index ≡ Some c → StandsFor same hash m index (prefix_at h index) c

@@ -40,12 +40,12 @@ tame_kinds =
 
 module _ {K : Type 0} (same : K → K → Bool) (hash : K → ℕ) where
   tame_decided : (o : Result Seen Refusal) (x : Seat) (key : K) (m : Memory K) → is_idle x.phase ≡ false → Tame (decided same hash o x key m)
-  tame_decided (Err e) x key m open-call = tt
-  tame_decided (Ok seen) x key m open-call = by_decide Tame tame_kinds same hash x.phase seen x key m open-call (λ f. tt)
+  tame_decided (Err e) x key m open_call = tt
+  tame_decided (Ok seen) x key m open_call = by_decide Tame tame_kinds same hash x.phase seen x key m open_call (λ f. tt)
 
   tame_keyed : (o : Option K) (x : Seat) (m : Memory K) → is_idle x.phase ≡ false → Tame (keyed same hash o x m).plan
-  tame_keyed None x m open-call = tt
-  tame_keyed (Some key) x m open-call = tame_decided (look x.phase x m).seen x key m open-call
+  tame_keyed None x m open_call = tt
+  tame_keyed (Some key) x m open_call = tame_decided (look x.phase x m).seen x key m open_call
 
   tame_planned : (s : State K) (t : ℕ) → Tame (planned same hash s t).plan
   tame_planned s t = by (no_seat s t) (is_idle (seat_of s t).phase) refl (leb last_count s.table.ticks)

@@ -89,8 +89,8 @@ module _ {K : Type 0} where
 
   -- ONE EVENT MORE
 
-  pub recorded-on : {h : History K} {calls more : List (StampedCall K)} {t n : ℕ} {z : Stamped} (v : Event K) → ((c : StampedCall K) → Memᴰ c calls → Memᴰ c more) → Recorded h calls t n z → Recorded (v ∷ h) more t n z
-  recorded-on v keeps r =
+  pub recorded_on : {h : History K} {calls more : List (StampedCall K)} {t n : ℕ} {z : Stamped} (v : Event K) → ((c : StampedCall K) → Memᴰ c calls → Memᴰ c more) → Recorded h calls t n z → Recorded (v ∷ h) more t n z
+  recorded_on v keeps r =
       record {
         call = r.call;
         listed = keeps r.call r.listed;
@@ -153,7 +153,7 @@ module _ {K : Type 0} where
           stored = w.keys p ne ∙ o.stored;
           since = omega (arith, o.since, w.ticks);
           fresh = λ u c m q. new u c q (k.adds c m);
-          settled = λ u. recorded-on v k.keeps (o.settled u);
+          settled = λ u. recorded_on v k.keeps (o.settled u);
           phased = o.phased;
         }
       where
@@ -204,7 +204,7 @@ module _ {K : Type 0} where
     ended_on : (e : Event K) (y : Stamped) → Memᴰ e (v ∷ h) → ended_by e.reply ≡ Some y → Recorded (v ∷ h) more (seat_in e.call) e.number y × (y.stamp ≤ e.ticks)
     ended_on e y (Memᴰ.head q) r =
         subst (λ (d : Event K). Recorded (v ∷ h) more (seat_in d.call) d.number y × (y.stamp ≤ d.ticks)) (sym q) (k.ends y (ap (λ (d : Event K). ended_by d.reply) (sym q) ∙ r))
-    ended_on e y (Memᴰ.tail m) r = let o = b.ended e y m r in (recorded-on v k.keeps o.0, o.1)
+    ended_on e y (Memᴰ.tail m) r = let o = b.ended e y m r in (recorded_on v k.keeps o.0, o.1)
 
     pub entered : Book (v ∷ h) z more
     entered =

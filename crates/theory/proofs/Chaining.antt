@@ -134,12 +134,12 @@ front_in zero (y ∷ xs) ys x m = elim m [ ]
 front_in (suc n) (y ∷ xs) ys x (Memᴰ.head e) = Memᴰ.head e
 front_in (suc n) (y ∷ xs) ys x (Memᴰ.tail m) = Memᴰ.tail (front_in n xs ys x m)
 
-pub recorded-in : (xs : List NewCell) (x : NewCell) → Memᴰ x (take (length xs) (chain_of xs)) → Memᴰ x xs
-recorded-in xs x m = front_in 7 xs (replicate 7 no_cell) x m
+pub recorded_in : (xs : List NewCell) (x : NewCell) → Memᴰ x (take (length xs) (chain_of xs)) → Memᴰ x xs
+recorded_in xs x m = front_in 7 xs (replicate 7 no_cell) x m
 
 -- Seven at the most are recorded whole.
-pub recorded-whole : (xs : List NewCell) → length xs ≤ 7 → length (take (length xs) (chain_of xs)) ≡ length xs
-recorded-whole xs l =
+pub recorded_whole : (xs : List NewCell) → length xs ≤ 7 → length (take (length xs) (chain_of xs)) ≡ length xs
+recorded_whole xs l =
     let a = length-take (length xs) (chain_of xs) in
     let b = length-take 7 (xs ++ replicate 7 no_cell) in
     let c = length-append xs (replicate 7 no_cell) in

@@ -86,8 +86,8 @@ module _ {K : Type 0} (same : K → K → Bool) (hash : K → ℕ) (laws : Laws 
     takes two =
         let r = gathers_at m.pairs ps vs i x at g in
         let short = length-remove ps i (at_low ps i r.0 r.1) in
-        let same-long = ap length out in
-        Prepares.shrinks k ps qs x refl listed_x t no_twice (subst (NoTwice same) (sym stays) (out_no_twice same vs i n)) two (omega (arith, short, same-long)) places from off others
+        let same_long = ap length out in
+        Prepares.shrinks k ps qs x refl listed_x t no_twice (subst (NoTwice same) (sym stays) (out_no_twice same vs i n)) two (omega (arith, short, same_long)) places from off others
 
   -- A cut takes it out, and one stays.
   buries : (r : ℕ) → remove ps i ≡ r ∷ [] → 0 < a → Prepares same hash chunk_at m (many ps) a (cutting k x.1) (tombed r) none []

@@ -20,7 +20,7 @@ use Rattle.rules.specs.declared.Turned.{Turned as Answered}
 use Rattle.rules.specs.declared.Turned.TheVariants.{Going, Finished}
 use Rattle.rules.specs.declared.Withdrawn.{Withdrawn}
 use Rattle.rules.specs.declared.Withdrawn.TheVariants.{Undone, Settled}
-use Rattle.theory.proofs.Book.{Book, Recorded, Sitting, Ending, Life, Shift, Entered, opened_by, ended_by, seat_in, recorded-on, ending_on, entered}
+use Rattle.theory.proofs.Book.{Book, Recorded, Sitting, Ending, Life, Shift, Entered, opened_by, ended_by, seat_in, recorded_on, ending_on, entered}
 use Rattle.theory.proofs.Deeds.{phased_open, Onward, Act}
 use Rattle.theory.specs.Records.{Phased}
 
@@ -52,7 +52,7 @@ module _ {K : Type 0} where
       }
     where
       kept : x.verdict.settled ≡ true → Recorded (v ∷ h) calls t y.number (stamped_by y)
-      kept u = rw (k.number, k.same_verdict u) (recorded-on v (λ c m. m) (o.settled u))
+      kept u = rw (k.number, k.same_verdict u) (recorded_on v (λ c m. m) (o.settled u))
 
   -- The calls that were fixed stay those, where an event fixes none.
   unfixed : {h : History K} {s z : State K} {calls : List (StampedCall K)} → Book h s calls → (v : Event K) (t : ℕ) → opened_by v.reply ≡ None
@@ -236,7 +236,7 @@ module _ {K : Type 0} where
         let kept = (b.seats t o).settled u in
         let l = (b.each kept.call kept.listed).now in
         let q = kept.its_stamp ∙ ap (λ (w : Stamped). w.stamp) e in
-        (subst (Recorded (v ∷ h) calls t (seat_of s t).number) e (recorded-on v (λ c i. i) kept), omega (arith, l, q))
+        (subst (Recorded (v ∷ h) calls t (seat_of s t).number) e (recorded_on v (λ c i. i) kept), omega (arith, l, q))
 
     abbrev same_place : slice_get m.keys t ≡ slice_get s.memory.keys t
     same_place = ap (λ k. slice_get k t) same_keys

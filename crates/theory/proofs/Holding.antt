@@ -2,7 +2,7 @@
 use Rattle.std.proofs.Common.{◌≡◌, ℕ, ◌<◌, ◌≤◌, Bool, false, List, length, get_or, Some, sym, ap, ◌∙◌, subst, arith}
 use Rattle.keys.specs.Laws.{KeyLaws}
 use Rattle.std.specs.List.{slice_get}
-use Rattle.machine.specs.Machine.{Entry, Main as Shape, Seat as Place, idle, HasPair, word, main as mainOf}
+use Rattle.machine.specs.Machine.{Entry, Main as Shape, Seat as Place, idle, HasPair, word, main as main_of}
 use Rattle.machine.specs.Machine.{PairInUse as UsedPair}
 use Rattle.mains.specs.declared.Main.{Main}
 use Rattle.rules.proofs.Naming.{some_is}
@@ -58,8 +58,8 @@ module _ {K : Type 0} (same : K → K → Bool) (hash : K → ℕ) (laws : KeyLa
     pub word_shown : word (shown_mem s.memory) c₀ ≡ n
     word_shown = (shows_memory K).word_at s.memory c₀ n h.word
 
-    pub main_shown : mainOf (shown_mem s.memory) (word (shown_mem s.memory) c₀) ≡ shown_main y
-    main_shown = ap (λ (x : ℕ). mainOf (shown_mem s.memory) x) word_shown ∙ (shows_memory K).main_at_lem s.memory n y h.main
+    pub main_shown : main_of (shown_mem s.memory) (word (shown_mem s.memory) c₀) ≡ shown_main y
+    main_shown = ap (λ (x : ℕ). main_of (shown_mem s.memory) x) word_shown ∙ (shows_memory K).main_at_lem s.memory n y h.main
 
     -- The pairs that a main other than a tomb names are in use.
     pub names_used : is_tomb y ≡ false → (p : ℕ) → NamesPair y p → PairInUse same hash s p

@@ -30,7 +30,7 @@ use Rattle.rules.specs.declared.Reply.{Reply}
 use Rattle.rules.specs.declared.Seat.{Seat}
 use Rattle.rules.proofs.Freshness.{accepted}
 use Rattle.theory.proofs.Calling.{Preserves, does_by}
-use Rattle.theory.proofs.Chaining.{chain_in_lem, in_places, recorded-in, rest_in}
+use Rattle.theory.proofs.Chaining.{chain_in_lem, in_places, recorded_in, rest_in}
 use Rattle.theory.proofs.Drafted.{drafts_pair, fine_drafted, fine_chain}
 use Rattle.theory.proofs.Fineness.{fine_more, fine_empty, fine_kept, fine_replaced}
 use Rattle.theory.proofs.Order.{all_idle}
@@ -81,7 +81,7 @@ module _ {K : Type 0} (same : K → K → Bool) (hash : K → ℕ) {s : State K}
 
         news : (i : NewCell) → Memᴰ i (new_cells y) → Memᴰ i.cell (picks.cells ++ k.cells) × Memᴰ i.main (picks.mains ++ k.mains)
         news i e =
-            let j = in_places (chain_in edit picks) i (recorded-in (places (chain_in edit picks)) i e) in
+            let j = in_places (chain_in edit picks) i (recorded_in (places (chain_in edit picks)) i e) in
             let h = chain_in_lem (first picks.pairs) picks.cells (rest picks.mains) edit j.0 j.1 in
             (Memᴰ.append_left k.cells (Memᴰ.cast (ap (λ (c : NewCell). c.cell) j.2) h.0), Memᴰ.append_left k.mains (rest_in picks.mains _ (Memᴰ.cast (ap (λ (c : NewCell). c.main) j.2) h.1)))
 

@@ -3,7 +3,7 @@ use Rattle.std.proofs.Common.{◌≡◌, ℕ, List, [], ◌∷◌, Some, None, O
 use mathlib.Core.List.{Memᴰ}
 use mathlib.Core.Option.{none, some}
 use Rattle.std.specs.List.{slice_get}
-use Rattle.machine.specs.Machine.{HasPair, word, main as mainOf}
+use Rattle.machine.specs.Machine.{HasPair, word, main as main_of}
 use Rattle.machine.specs.Tree.{nth as placed, In, here, later}
 use Rattle.mains.specs.declared.Main.{Main}
 use Rattle.mains.specs.declared.Main.TheVariants.{Node as node, Tomb as tomb, List as listing}
@@ -25,7 +25,7 @@ module _ {K : Type 0} (m z : Memory K) where
       let s = shows_memory K in
       agree (slice_get z.words c) (slice_get m.words c) (λ n. n) 0 _ _ e (s.word_at z c) (s.word_past z c) (s.word_at m c) (s.word_past m c)
 
-  pub main_alike : (n : ℕ) → main_at z.mains n ≡ main_at m.mains n → mainOf (shown_mem z) n ≡ mainOf (shown_mem m) n
+  pub main_alike : (n : ℕ) → main_at z.mains n ≡ main_at m.mains n → main_of (shown_mem z) n ≡ main_of (shown_mem m) n
   main_alike n e =
       let s = shows_memory K in
       agree (main_at z.mains n) (main_at m.mains n) shown_main _ _ _ e (s.main_at_lem z n) (s.main_past z n) (s.main_at_lem m n) (s.main_past m n)

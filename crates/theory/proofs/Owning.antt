@@ -17,7 +17,7 @@ use Rattle.theory.proofs.Stocking.{Stock}
 use Rattle.theory.proofs.Writing.{Written, Owns, Fine, is_burying}
 
 -- What a record names may be named where there is more.
-pub owns_more : {cells mains moreCells moreMains : List ℕ} {pairs : ℕ} {x : Seat} → ((c : ℕ) → Memᴰ c cells → Memᴰ c moreCells) → ((n : ℕ) → Memᴰ n mains → Memᴰ n moreMains) → Owns cells mains pairs x → Owns moreCells moreMains pairs x
+pub owns_more : {cells mains more_cells more_mains : List ℕ} {pairs : ℕ} {x : Seat} → ((c : ℕ) → Memᴰ c cells → Memᴰ c more_cells) → ((n : ℕ) → Memᴰ n mains → Memᴰ n more_mains) → Owns cells mains pairs x → Owns more_cells more_mains pairs x
 owns_more f g o =
     record {
       path = λ i l. f _ (o.path i l);

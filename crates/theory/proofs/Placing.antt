@@ -5,7 +5,7 @@ use Rattle.keys.specs.Laws.{KeyLaws}
 use Rattle.keys.specs.Routes.{chunk_at}
 use Rattle.std.specs.List.{slice_get}
 use Rattle.machine.proofs.Laws.{laws_of}
-use Rattle.machine.specs.Machine.{Entry, Seat as Place, HasPair, Main as Shape, word, main as mainOf}
+use Rattle.machine.specs.Machine.{Entry, Seat as Place, HasPair, Main as Shape, word, main as main_of}
 use Rattle.machine.specs.Tree.{In, here, later}
 use Rattle.mains.specs.Lists.{listed}
 use Rattle.mains.specs.Nodes.{branch_at}
@@ -50,10 +50,10 @@ shown_has (tomb r) p (Memᴰ.tail m) = elim m [ ]
 shown_has (listing l) p m = mem_in p (listed l) m
 
 -- The main of a cell is shown.
-pub main_shown : {K : Type 0} (m : Memory K) (c : ℕ) (x : Main) → main_in m c ≡ Some x → mainOf (shown_mem m) (word (shown_mem m) c) ≡ shown_main x
+pub main_shown : {K : Type 0} (m : Memory K) (c : ℕ) (x : Main) → main_in m c ≡ Some x → main_of (shown_mem m) (word (shown_mem m) c) ≡ shown_main x
 main_shown {K} m c x e =
     let w = then_some (slice_get m.words c) (main_at m.mains) x e in
-    ap (mainOf (shown_mem m)) ((shows_memory K).word_at m c w.0 w.1) ∙ (shows_memory K).main_at_lem m w.0 x w.2
+    ap (main_of (shown_mem m)) ((shows_memory K).word_at m c w.0 w.1) ∙ (shows_memory K).main_at_lem m w.0 x w.2
 
 module _ {K : Type 0} (same : K → K → Bool) (hash : K → ℕ) (laws : KeyLaws same hash) {f : Figures} {es : List (Entry K)} {s : State K} {xs : List (Place K)} (g : Ground same hash f es s xs) where
   pub reaches : (p : ℕ) → ReachedPair same hash s.memory p → Reaches same hash chunk_at (shown_mem s.memory) p

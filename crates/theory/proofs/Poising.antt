@@ -24,7 +24,7 @@ use Rattle.rules.specs.declared.Plan.TheVariants.{Make}
 use Rattle.rules.specs.declared.Reply.{Reply}
 use Rattle.rules.specs.declared.Seat.{Seat}
 use Rattle.theory.proofs.Calling.{Preserves, does_by}
-use Rattle.theory.proofs.Chaining.{chain_short, recorded-whole}
+use Rattle.theory.proofs.Chaining.{chain_short, recorded_whole}
 use Rattle.theory.proofs.Drafted.{drafts_adds, drafts_hopes, drafts_room}
 use Rattle.theory.proofs.ListPlaces.{each_set}
 use Rattle.theory.proofs.Sights.{Reads, Drafts, Leaves, Sees}
@@ -72,7 +72,7 @@ module _ {K : Type 0} (same : K → K → Bool) (hash : K → ℕ) (s : State K)
   drafted : (key : K) (n : ℕ) (picks : Picks) (y : Main) (edit : Edit) (r : Outcome) → (seat_of s t).path.depth ≤ 7 → Drafts same hash s.memory key (seat_of s t).path.depth (seat_of s t).ask y edit r → Picked same hash s edit picks
       → Poised (prepared (hoping (seat_of s t) r) Swap (pending_for edit n picks))
   drafted key n picks y edit r l d u =
-      record { hopes = λ _. drafts_hopes same hash d; short = λ _. room; links = λ _. recorded-whole (places (chain_in edit picks)) (omega (arith, room)); adds = λ _ e. drafts_adds same hash d e }
+      record { hopes = λ _. drafts_hopes same hash d; short = λ _. room; links = λ _. recorded_whole (places (chain_in edit picks)) (omega (arith, room)); adds = λ _ e. drafts_adds same hash d e }
     where
       room : (seat_of s t).path.depth + length (places (chain_in edit picks)) ≤ 7
       room =

@@ -7,7 +7,7 @@ use Rattle.std.specs.List.{slice_get}
 use Rattle.std.proofs.lemmas.Bool.{lt-ltb}
 use Rattle.machine.proofs.Walk.{walk_back}
 use Rattle.machine.specs.Machine.{Branch as Slot, nothing, pair as paired, cell as celled, Main as Shape, main, view, face, spot, lone}
-use Rattle.machine.specs.Tree.{on, kid, into, nth as placed, walk as treeWalk}
+use Rattle.machine.specs.Tree.{on, kid, into, nth as placed, walk as tree_walk}
 use Rattle.mains.specs.Nodes.{branch_at}
 use Rattle.mains.specs.declared.Branch.{Branch}
 use Rattle.mains.specs.declared.Branch.TheVariants.{Pair as pair, Cell as cell}
@@ -54,7 +54,7 @@ module _ {K : Type 0} (same : K → K → Bool) (hash : K → ℕ) (m : Memory K
       by (Some (cell d)) e = test d (ltb d (length m.words)) e
 
   leads : (h index c : ℕ) → walk same hash m h index ≡ Some c → Leads m h index c
-  unfolding walk treeWalk
+  unfolding walk tree_walk
   leads h zero c e = by (ltb 0 (length m.words)) e
     where
       by : (b : Bool) → cond b (Some 0) None ≡ Some c → some 0 ≡ some c
@@ -81,7 +81,7 @@ module _ {K : Type 0} (same : K → K → Bool) (hash : K → ℕ) (m : Memory K
       by (celled d) e = cc
 
   back : Intact same hash m → (h index c : ℕ) → Leads m h index c → walk same hash m h index ≡ Some c
-  unfolding walk treeWalk
+  unfolding walk tree_walk
   back i h zero c e = let z : 0 ≡ c = cc in rw (lt-ltb 0 (length m.words) (i.inside h zero 0 refl)) (ap Some z)
   back i h (suc index) c e =
       let a = walk_back chunk_at (view (shown_mem m)) h index c e in

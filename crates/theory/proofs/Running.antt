@@ -93,7 +93,7 @@ module _ {K : Type 0} (same : K → K → Bool) (hash : K → ℕ) where
       abbrev g : Ground same hash f (entries_of w.calls) s w.image.seats
       g = ground same hash laws w.steady w.image
 
-      module _ (v : Event K) (more : List (StampedCall K)) (z : State K) (steady-z : Steady f z) (written : Written z) (poised : (t : ℕ) → is_idle (seat_of z t).phase ≡ false → Poised (seat_of z t)) where
+      module _ (v : Event K) (more : List (StampedCall K)) (z : State K) (steady_z : Steady f z) (written : Written z) (poised : (t : ℕ) → is_idle (seat_of z t).phase ≡ false → Poised (seat_of z t)) where
         -- A turn.
         turn_on : (t : ℕ) (picks : Picks) → Takes same hash s (planned same hash s t).plan picks → Grown s t w.calls (turned same hash s t picks).fixed more → z ≡ (turned same hash s t picks).state
             → Image same hash (v ∷ h) more z × Within same hash z
@@ -101,7 +101,7 @@ module _ {K : Type 0} (same : K → K → Bool) (hash : K → ℕ) where
             let moved = turn_moves same hash laws g w.calls t picks takes more grown in
             let image : Image same hash (v ∷ h) more z = moves w.image (subst (λ (u : State K). Moved same hash s u w.image.seats w.calls more) (sym e) moved) written poised in
             let before = (told same hash laws w.calls g).counted in
-            let after = (told same hash laws more (ground same hash laws steady-z image)).counted in
+            let after = (told same hash laws more (ground same hash laws steady_z image)).counted in
             (image, subst (Within same hash) (sym e) (within_turn same hash laws w.calls g w.within t picks more takes grown before (ap (λ (u : State K). pair_count same hash u.memory) (sym e) ∙ after)))
 
       -- The event of a call.

@@ -17,7 +17,7 @@ use Rattle.rules.specs.Memory.{Memory, main_at}
 use Rattle.rules.specs.Reached.{is_tomb}
 use Rattle.rules.specs.Seats.{is_idle, is_cut, is_put, last_cell, parent_cell, restarted, grown, dropped, at_tomb, moved}
 use Rattle.rules.specs.Sound.{sound, all_alike, pairs_at}
-use Rattle.rules.specs.Turns.{Look, look, reads as read_of, swaps as swapOf, saw_main, saw_word, swapped_word, at_nothing, at_equal, at_other, not_listed, listed_at, place_of, at_place, climbed, gives_up, climbs, at_parent, swung, missed, at_pair, at_branch, at_list, read_plan, parent_plan, decide, decided, keyed}
+use Rattle.rules.specs.Turns.{Look, look, reads as read_of, swaps as swap_of, saw_main, saw_word, swapped_word, at_nothing, at_equal, at_other, not_listed, listed_at, place_of, at_place, climbed, gives_up, climbs, at_parent, swung, missed, at_pair, at_branch, at_list, read_plan, parent_plan, decide, decided, keyed}
 use Rattle.rules.specs.declared.Ask.{Ask}
 use Rattle.rules.specs.declared.Ask.TheVariants.{Get, Put, Cut}
 use Rattle.rules.specs.declared.Edit.{Edit}
@@ -321,9 +321,9 @@ module _ {K : Type 0} (same : K → K → Bool) (hash : K → ℕ) where
         by : (o : Option ℕ) → last_cell x ≡ o → Sees m x k (decided same hash (read_of m o).seen x k m) (read_of m o).words
         by None g = Sees.unfit (Unfit.nowhere (looked Read e None g))
         by (Some c) g = read_word c Read e g (read_main c e g) (slice_get m.words c) refl
-    looks Swap e i o g = subst (λ (u : Option ℕ). let l = swapOf m u x.pending.expected x.pending.made in Sees m x k (decided same hash l.seen x k m) l.words) (sym g) (by o g)
+    looks Swap e i o g = subst (λ (u : Option ℕ). let l = swap_of m u x.pending.expected x.pending.made in Sees m x k (decided same hash l.seen x k m) l.words) (sym g) (by o g)
       where
-        by : (o : Option ℕ) → last_cell x ≡ o → (let l = swapOf m o x.pending.expected x.pending.made in Sees m x k (decided same hash l.seen x k m) l.words)
+        by : (o : Option ℕ) → last_cell x ≡ o → (let l = swap_of m o x.pending.expected x.pending.made in Sees m x k (decided same hash l.seen x k m) l.words)
         by None g = Sees.unfit (Unfit.nowhere (looked Swap e None g))
         by (Some c) g = swap_word c Swap e g (swap_yes c e g) (Sees.loses e) (slice_get m.words c) refl
     looks Climb e i o g = subst (λ (u : Option ℕ). Sees m x k (decided same hash (read_of m u).seen x k m) (read_of m u).words) (sym g) (by o g)
@@ -336,9 +336,9 @@ module _ {K : Type 0} (same : K → K → Bool) (hash : K → ℕ) where
         by : (o : Option ℕ) → parent_cell x ≡ o → Sees m x k (decided same hash (read_of m o).seen x k m) (read_of m o).words
         by None g = Sees.unfit (Unfit.nowhere (looked Parent e None g))
         by (Some c) g = read_word c Parent e g (parent_main c e g) (slice_get m.words c) refl
-    looks Clean e i o g = subst (λ (u : Option ℕ). let l = swapOf m u x.pending.expected x.pending.made in Sees m x k (decided same hash l.seen x k m) l.words) (sym g) (by o g)
+    looks Clean e i o g = subst (λ (u : Option ℕ). let l = swap_of m u x.pending.expected x.pending.made in Sees m x k (decided same hash l.seen x k m) l.words) (sym g) (by o g)
       where
-        by : (o : Option ℕ) → parent_cell x ≡ o → (let l = swapOf m o x.pending.expected x.pending.made in Sees m x k (decided same hash l.seen x k m) l.words)
+        by : (o : Option ℕ) → parent_cell x ≡ o → (let l = swap_of m o x.pending.expected x.pending.made in Sees m x k (decided same hash l.seen x k m) l.words)
         by None g = Sees.unfit (Unfit.nowhere (looked Clean e None g))
         by (Some c) g = swap_word c Clean e g (λ w. Sees.cleans e c g w leaves) (clean_no e) (slice_get m.words c) refl
 

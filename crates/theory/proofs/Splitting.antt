@@ -140,8 +140,8 @@ module _ {K : Type 0} (same : K → K → Bool) (hash : K → ℕ) (laws : KeyLa
       → ((i : Link) → Memᴰ i (linked (fork_of n index k r y) p (index + 1) cells mains) → main_at z.mains i.place.main ≡ Some i.holds)
       → Prepares same hash chunk_at (shown_mem z) (shown_main (node n)) index (put k v) (shown_main (edited (Split (fork_of n index k r y)) p (first cells))) (some p)
       (news (places (linked (fork_of n index k r y) p (index + 1) cells mains)))
-  splitted z k v index p r n y [] mains w l b hr t hp lc lm held = let some-link = (fork_links n index k r y l).0 in absurd (omega (arith, lc, some-link))
-  splitted z k v index p r n y (c ∷ cells) [] w l b hr t hp lc lm held = let some-link = (fork_links n index k r y l).0 in absurd (omega (arith, lm, some-link))
+  splitted z k v index p r n y [] mains w l b hr t hp lc lm held = let some_link = (fork_links n index k r y l).0 in absurd (omega (arith, lc, some_link))
+  splitted z k v index p r n y (c ∷ cells) [] w l b hr t hp lc lm held = let some_link = (fork_links n index k r y l).0 in absurd (omega (arith, lm, some_link))
   splitted z k v index p r n y (c ∷ cells) (m ∷ mains) w l b hr t hp lc lm held =
       let chunk = chunk_at (hash k) index in
       let low = chunk_below (hash k) index in

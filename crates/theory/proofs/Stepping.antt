@@ -7,7 +7,7 @@ use Rattle.std.specs.List.{slice_get}
 use Rattle.std.proofs.lemmas.Bool.{true≢false, false≢true}
 use Rattle.machine.specs.Machine.{Seat as Place, Op, get, climb, plain, Entry, idle, read, parent, word, main, view, face, IsTomb, value}
 use Rattle.machine.specs.Tree.{stands, on, find}
-use Rattle.machine.specs.Turn.{Turn, Goes, returns, again, swept, dropped as droppedTo}
+use Rattle.machine.specs.Turn.{Turn, Goes, returns, again, swept, dropped as dropped_to}
 use Rattle.mains.specs.Nodes.{branch_at}
 use Rattle.mains.specs.declared.Branch.TheVariants.{Pair as pair, Cell as cell}
 use Rattle.mains.specs.declared.Main.{Main}
@@ -235,7 +235,7 @@ module _ {K : Type 0} (same : K → K → Bool) (hash : K → ℕ) (laws : KeyLa
   -- CLIMB
 
   -- The last cell holds no tomb.
-  climbs : x.phase ≡ Climb → (n : ℕ) (y : Main) → Holds same hash s.memory (last_of x) n y → is_tomb y ≡ false → Goes same hash chunk_at (shown_mem s.memory) (get_or xs t idle) (droppedTo k (above_of x))
+  climbs : x.phase ≡ Climb → (n : ℕ) (y : Main) → Holds same hash s.memory (last_of x) n y → is_tomb y ≡ false → Goes same hash chunk_at (shown_mem s.memory) (get_or xs t idle) (dropped_to k (above_of x))
   climbs e n y h u = as_shown Climb e _ (Goes.leaves k (last_of x) (above_of x) (λ d. by y u (subst IsTomb (main_shown (last_of x) n y h) d)))
     where
       by : (y : Main) → is_tomb y ≡ false → IsTomb (shown_main y) → ⊥
@@ -244,10 +244,10 @@ module _ {K : Type 0} (same : K → K → Bool) (hash : K → ℕ) (laws : KeyLa
       by (listing l) u d = d
 
   pub climbs_out : x.phase ≡ Climb → (n : ℕ) (y : Main) → Holds same hash s.memory (last_of x) n y → is_tomb y ≡ false → x.path.depth ≤ 1 → After s.memory idle_seat calls
-  climbs_out e n y h u l = frees (droppedTo k (above_of x)) (dropped_out same hash x k l) (climbs e n y h u)
+  climbs_out e n y h u l = frees (dropped_to k (above_of x)) (dropped_out same hash x k l) (climbs e n y h u)
 
   pub climbs_on : x.phase ≡ Climb → (n : ℕ) (y : Main) → Holds same hash s.memory (last_of x) n y → is_tomb y ≡ false → 2 ≤ x.path.depth → After s.memory (dropped x) calls
-  climbs_on e n y h u l = goes (dropped x) (droppedTo k (above_of x)) refl (dropped_on same hash x k l) (climbs e n y h u)
+  climbs_on e n y h u l = goes (dropped x) (dropped_to k (above_of x)) refl (dropped_on same hash x k l) (climbs e n y h u)
 
   -- PARENT AND CLEAN
 
@@ -304,9 +304,9 @@ module _ {K : Type 0} (same : K → K → Bool) (hash : K → ℕ) (laws : KeyLa
 
   -- What the call does then.
   module _ (m : Memory K) (keys : m.keys ≡ s.memory.keys) (l : 1 ≤ x.path.depth) (turn : Left m) where
-    settled_leaves : x.verdict.settled ≡ true → leaving ≡ droppedTo k (above_of x)
+    settled_leaves : x.verdict.settled ≡ true → leaving ≡ dropped_to k (above_of x)
     settled_leaves u =
-        ap (λ (b : Bool). returns (calling b x.ask k) (first (above_of x) ∷ rest (above_of x))) u ∙ ap (droppedTo k) (sym (nearest x.path.cells x.path.depth l))
+        ap (λ (b : Bool). returns (calling b x.ask k) (first (above_of x) ∷ rest (above_of x))) u ∙ ap (dropped_to k) (sym (nearest x.path.cells x.path.depth l))
 
     pub leaves_out : x.verdict.settled ≡ true → x.path.depth ≤ 1 → After m idle_seat calls
     leaves_out u d =

@@ -5,7 +5,7 @@ use mathlib.Core.Option.{Option as Maybe, none, some}
 use Rattle.keys.specs.Laws.{KeyLaws}
 use Rattle.keys.specs.Routes.{chunk_at}
 use Rattle.std.specs.List.{slice_get}
-use Rattle.machine.specs.Machine.{Entry, Main as Shape, Op, Seat as Place, State as Machine, word, main as mainOf, key, read, swap, parent, clean, Alike, Fresh, Prepares, Cleans}
+use Rattle.machine.specs.Machine.{Entry, Main as Shape, Op, Seat as Place, State as Machine, word, main as main_of, key, read, swap, parent, clean, Alike, Fresh, Prepares, Cleans}
 use Rattle.machine.specs.Machine.{MainInUse as UsedMain, PairInUse as UsedPair}
 use Rattle.machine.specs.Tree.{nth as placed}
 use Rattle.machine.specs.Turn.{Turn}
@@ -120,7 +120,7 @@ module _ {K : Type 0} (same : K → K → Bool) (hash : K → ℕ) (laws : KeyLa
   main_free : UsedMain chunk_at (shown_state s xs) n₀ → ⊥
   main_free u = (picked.mains.free n₀ (main_taken same hash t picked room)).1 (main_used same hash laws g n₀ u)
 
-  made_shown : mainOf (shown_mem m₀) n₀ ≡ shown_main y₀
+  made_shown : main_of (shown_mem m₀) n₀ ≡ shown_main y₀
   made_shown = (shows_memory K).main_at_lem m₀ n₀ y₀ (main_made same hash t picked room)
 
   -- A TURN OF READ

@@ -6,7 +6,7 @@ use Rattle.keys.specs.Routes.{chunk_at}
 use Rattle.std.specs.List.{slice_get}
 use Rattle.std.proofs.lemmas.Bool.{cases_eq}
 use Rattle.machine.specs.Machine.{Seat as Place, cutting, climb, plain, gives, idle, read}
-use Rattle.machine.specs.Turn.{Turn, Turns, IsPlain, returns, again, dropped as droppedTo}
+use Rattle.machine.specs.Turn.{Turn, Turns, IsPlain, returns, again, dropped as dropped_to}
 use Rattle.rules.proofs.Naming.{some_is}
 use Rattle.rules.specs.Memory.{Memory, State}
 use Rattle.rules.specs.Perform.{seated}
@@ -128,20 +128,20 @@ module _ {K : Type 0} (same : K → K → Bool) (hash : K → ℕ) where
   -- LEAVING THE LAST CELL
 
   -- A settled cut that drops its last cell climbs on, or ends where only the root remains.
-  pub dropped_on : (x : Seat) (k : K) → 2 ≤ x.path.depth → droppedTo k (above_of x) ≡ shown_seat (dropped x) k
+  pub dropped_on : (x : Seat) (k : K) → 2 ≤ x.path.depth → dropped_to k (above_of x) ≡ shown_seat (dropped x) k
   dropped_on x k l = by x.path.depth l refl
     where
-      by : (d : ℕ) → 2 ≤ d → x.path.depth ≡ d → droppedTo k (above x.path.cells x.path.depth) ≡ read (climb k) (get_or x.path.cells (x.path.depth - 1) 0 ∷ above x.path.cells (x.path.depth - 1))
+      by : (d : ℕ) → 2 ≤ d → x.path.depth ≡ d → dropped_to k (above x.path.cells x.path.depth) ≡ read (climb k) (get_or x.path.cells (x.path.depth - 1) 0 ∷ above x.path.cells (x.path.depth - 1))
       by zero l e = absurd (omega arith)
       by (suc zero) l e = absurd (omega arith)
       by (suc (suc d)) l e =
           let q : x.path.depth - 1 ≡ suc d = omega (arith, e) in
-          ap (λ (i : ℕ). droppedTo k (above x.path.cells i)) e ∙ ap (λ (i : ℕ). read (climb k) (get_or x.path.cells i 0 ∷ above x.path.cells i)) (sym q)
+          ap (λ (i : ℕ). dropped_to k (above x.path.cells i)) e ∙ ap (λ (i : ℕ). read (climb k) (get_or x.path.cells i 0 ∷ above x.path.cells i)) (sym q)
 
-  pub dropped_out : (x : Seat) (k : K) → x.path.depth ≤ 1 → droppedTo k (above_of x) ≡ idle
+  pub dropped_out : (x : Seat) (k : K) → x.path.depth ≤ 1 → dropped_to k (above_of x) ≡ idle
   dropped_out x k l = by x.path.depth l
     where
-      by : (d : ℕ) → d ≤ 1 → droppedTo k (above x.path.cells d) ≡ idle
+      by : (d : ℕ) → d ≤ 1 → dropped_to k (above x.path.cells d) ≡ idle
       by zero l = refl
       by (suc zero) l = refl
       by (suc (suc d)) l = absurd (omega arith)

@@ -8,7 +8,7 @@ use Rattle.std.specs.List.{slice_get}
 use Rattle.std.proofs.lemmas.Bool.{and_parts, leb-true, true≢false}
 use Rattle.machine.proofs.Inv.{At, SeatOK}
 use Rattle.machine.proofs.Walk.{root_is, walk_back}
-use Rattle.machine.specs.Machine.{Entry, Seat as Place, idle, path, IsTomb, HasPair, Expects, MakesMain, MakesPair, MakesCell, Main as Shape, word, view, main as mainOf}
+use Rattle.machine.specs.Machine.{Entry, Seat as Place, idle, path, IsTomb, HasPair, Expects, MakesMain, MakesPair, MakesCell, Main as Shape, word, view, main as main_of}
 use Rattle.machine.specs.Machine.{CellInUse as UsedCell, MainInUse as UsedMain, PairInUse as UsedPair}
 use Rattle.machine.specs.Rules.{Kept as Ruling}
 use Rattle.machine.specs.Tree.{Agree, In, walk}
@@ -44,7 +44,7 @@ module _ {K : Type 0} (same : K → K → Bool) (hash : K → ℕ) where
     pub holds : Holds same hash s.memory c number main
     pub fine : Fine cells (length s.memory.pairs) main
     pub keeps : sound same hash s.memory.pairs i main ≡ true
-    pub shown : mainOf (shown_mem s.memory) (word (shown_mem s.memory) c) ≡ shown_main main
+    pub shown : main_of (shown_mem s.memory) (word (shown_mem s.memory) c) ≡ shown_main main
     pub leads : is_tomb main ≡ false → Leads s.memory (hash k) i c
 
 module _ {K : Type 0} (same : K → K → Bool) (hash : K → ℕ) (laws : KeyLaws same hash) {f : Figures} {es : List (Entry K)} {s : State K} {xs : List (Place K)} (g : Ground same hash f es s xs) where
@@ -67,7 +67,7 @@ module _ {K : Type 0} (same : K → K → Bool) (hash : K → ℕ) (laws : KeyLa
     holds : Holds same hash s.memory c number main
     fine : Fine g.written.cells (length s.memory.pairs) main
     inside : main_in s.memory c ≡ Some main
-    shown : mainOf (shown_mem s.memory) (word (shown_mem s.memory) c) ≡ shown_main main
+    shown : main_of (shown_mem s.memory) (word (shown_mem s.memory) c) ≡ shown_main main
 
   stock : (c : ℕ) → Memᴰ c g.written.cells → Stock c
   stock c w =
@@ -79,7 +79,7 @@ module _ {K : Type 0} (same : K → K → Bool) (hash : K → ℕ) (laws : KeyLa
         holds = record { word = h.1; main = x.1 };
         fine = x.2;
         inside = ap (λ o. then o (main_at s.memory.mains)) h.1 ∙ x.1;
-        shown = ap (mainOf (shown_mem s.memory)) ((shows_memory K).word_at s.memory c h.0 h.1) ∙ (shows_memory K).main_at_lem s.memory h.0 x.0 x.1;
+        shown = ap (main_of (shown_mem s.memory)) ((shows_memory K).word_at s.memory c h.0 h.1) ∙ (shows_memory K).main_at_lem s.memory h.0 x.0 x.1;
       }
 
   -- What is led to was written.
@@ -149,7 +149,7 @@ module _ {K : Type 0} (same : K → K → Bool) (hash : K → ℕ) (laws : KeyLa
   read_led k i c z w =
       record { number = z.number; main = z.main; holds = z.holds; fine = z.fine; keeps = sound_led (hash k) i c w z; shown = z.shown; leads = λ _. w }
 
-  read_tomb : (k : K) (i c : ℕ) → Stock c → 1 ≤ i → i ≤ 7 → IsTomb (mainOf (shown_mem s.memory) (word (shown_mem s.memory) c)) → Readable same hash s g.written.cells k i c
+  read_tomb : (k : K) (i c : ℕ) → Stock c → 1 ≤ i → i ≤ 7 → IsTomb (main_of (shown_mem s.memory) (word (shown_mem s.memory) c)) → Readable same hash s g.written.cells k i c
   read_tomb k i c z l m d =
       let t = subst IsTomb z.shown d in
       record {
@@ -241,10 +241,10 @@ module _ {K : Type 0} (same : K → K → Bool) (hash : K → ℕ) (laws : KeyLa
       let z = stock c q.2 in
       let j = number_is c n z e in
       MainInUse.entombing t c q.0 q.1 (z.holds.word ∙ ap Some j) z.main (ap (main_at s.memory.mains) (sym j) ∙ z.holds.main)
-      (is_tomb_lem z.main (subst IsTomb (ap (mainOf (shown_mem s.memory)) (sym e) ∙ z.shown) d))
+      (is_tomb_lem z.main (subst IsTomb (ap (main_of (shown_mem s.memory)) (sym e) ∙ z.shown) d))
 
   -- A pair that is named by the main of a cell to which a hash leads is reached.
-  pub pair_reached : (h i c p : ℕ) → Leads s.memory h i c → HasPair (mainOf (shown_mem s.memory) (word (shown_mem s.memory) c)) p → ReachedPair same hash s.memory p
+  pub pair_reached : (h i c p : ℕ) → Leads s.memory h i c → HasPair (main_of (shown_mem s.memory) (word (shown_mem s.memory) c)) p → ReachedPair same hash s.memory p
   pair_reached h i c p w d =
       let z = stock c (leads_written h i c w) in
       let n = names_pair z.main p (subst (λ (x : Shape). HasPair x p) z.shown d) in

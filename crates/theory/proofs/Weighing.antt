@@ -58,7 +58,7 @@ module _ {K : Type 0} (same : K → K → Bool) (hash : K → ℕ) (laws : KeyLa
     quiet : (y : Seat) → cells_by y ≡ 0 → pairs_by y ≡ 0 → Within same hash (seated s s.memory t y (suc s.table.ticks))
     quiet y a b = weighed s.memory y (suc s.table.ticks) (omega (arith, a)) (omega (arith, b))
 
-    module _ (k : K) (keyed-as : slice_get s.memory.keys t ≡ Some k) (edit : Edit) (phase : Phase) (n : ℕ) (r : Outcome) (picked : Picked same hash s edit picks) where
+    module _ (k : K) (keyed_as : slice_get s.memory.keys t ≡ Some k) (edit : Edit) (phase : Phase) (n : ℕ) (r : Outcome) (picked : Picked same hash s edit picks) where
       -- The record that a preparation leaves.
       abbrev pending_seat : Seat
       pending_seat = prepared (hoping (seat_of s t) r) phase (pending_for edit n picks)
@@ -69,7 +69,7 @@ module _ {K : Type 0} (same : K → K → Bool) (hash : K → ℕ) (laws : KeyLa
       made_within room not_full as_many = by (and_cases (adds_pair edit) (full same hash s t (links_of edit)) not_full)
         where
           count : cell_count same hash (made_memory s t edit picks) ≤ cell_count same hash s.memory
-          count = made_count same hash laws g t k o keyed-as edit picks picked room
+          count = made_count same hash laws g t k o keyed_as edit picks picked room
 
           cells_most : cells_by pending_seat ≤ length (places (chain_in edit picks))
           cells_most = promised_most phase (length (places (chain_in edit picks)))
@@ -99,19 +99,19 @@ module _ {K : Type 0} (same : K → K → Bool) (hash : K → ℕ) (laws : KeyLa
               let one = one_most (adds_pair edit) in
               record { cells = omega (arith, count, cells_most, u, c, d, l, few); pairs = omega (arith, as_many, pairs_most, v, c', d', one) }
 
-    module _ (k : K) (keyed-as : slice_get s.memory.keys t ≡ Some k) (before : pair_count same hash s.memory ≡ length (fed same calls)) where
+    module _ (k : K) (keyed_as : slice_get s.memory.keys t ≡ Some k) (before : pair_count same hash s.memory ≡ length (fed same calls)) where
       -- What is prepared, refused for want of places, or given up for want of room.
       make_keeps : (edit : Edit) (phase : Phase) (n : ℕ) (r : Outcome) → Keeps t picks more (Make edit phase n r) s.memory.words
       make_keeps edit phase n r picked = by (enough edit picks) refl (adds_pair edit && full same hash s t (links_of edit)) refl
         where
           made : Bool → Bool → Out K
-          made b c = cond b (cond c (quitted s t TableFull) (going s t (made_memory s t edit picks) (pending_seat k keyed-as edit phase n r picked) None)) (refused s t MemoryUnfit)
+          made b c = cond b (cond c (quitted s t TableFull) (going s t (made_memory s t edit picks) (pending_seat k keyed_as edit phase n r picked) None)) (refused s t MemoryUnfit)
 
           by : (b : Bool) → enough edit picks ≡ b → (c : Bool) → (adds_pair edit && full same hash s t (links_of edit)) ≡ c
               → Grown s t calls (made b c).fixed more → pair_count same hash (made b c).state.memory ≡ length (fed same more) → Within same hash (made b c).state
           by false room c e grown after = w
           by true room true e grown after = quiet idle_seat refl refl
-          by true room false e grown after = made_within k keyed-as edit phase n r picked room e (after ∙ (no_longer same s t calls more grown ∙ sym before))
+          by true room false e grown after = made_within k keyed_as edit phase n r picked room e (after ∙ (no_longer same s t calls more grown ∙ sym before))
 
       reads_keeps : (n : ℕ) (y : Main) (p : Plan) → Reads same hash s.memory (seat_of s t) k n y p → Keeps t picks more p s.memory.words
       reads_keeps n y p (Reads.missing z q b m) takes grown after = w
@@ -142,7 +142,7 @@ module _ {K : Type 0} (same : K → K → Bool) (hash : K → ℕ) (laws : KeyLa
           → Within same hash (seated s (worded s.memory (set s.memory.words c (seat_of s t).pending.made)) t y (suc s.table.ticks))
       swap_keeps e c l h y a b r grown after =
           let x = seat_of s t in
-          let cells = swap_count same hash laws g t k o keyed-as c h e l in
+          let cells = swap_count same hash laws g t k o keyed_as c h e l in
           let pairs = swap_longer same hash laws calls g t o e c l h more r grown in
           let p = ap (λ (q : Phase). promised_by q x.pending.links) e in
           let q = ap (λ (q : Phase). promised_by q (cond x.pending.adds 1 0)) e in
@@ -160,7 +160,7 @@ module _ {K : Type 0} (same : K → K → Bool) (hash : K → ℕ) (laws : KeyLa
       sees_keeps p words (Sees.contracts e c n y l h u b) takes grown after = make_keeps _ Clean n _ takes grown after
       sees_keeps p words (Sees.parts e c n y l h u v) takes grown after = leaves_keeps s.memory.words (omega arith) p v takes grown after
       sees_keeps p words (Sees.cleans e c l h v) takes grown after =
-          leaves_keeps (set s.memory.words c (seat_of s t).pending.made) (clean_count same hash laws g t k o keyed-as c h e l) p v takes grown after
+          leaves_keeps (set s.memory.words c (seat_of s t).pending.made) (clean_count same hash laws g t k o keyed_as c h e l) p v takes grown after
       sees_keeps p words (Sees.misses e u) takes grown after = quiet _ refl refl
       sees_keeps p words (Sees.gives_up_lem e u) takes grown after = quiet _ refl refl
 

@@ -3,7 +3,7 @@ use Rattle.std.specs.Prelude.{◌≡◌, ℕ, ◌<◌, Bool, length, Some}
 use Rattle.std.proofs.Math.Option.{some}
 use Rattle.keys.specs.Routes.{chunk_at}
 use Rattle.machine.specs.Machine.{view}
-use Rattle.machine.specs.Tree.{walk as treeWalk}
+use Rattle.machine.specs.Tree.{walk as tree_walk}
 use Rattle.mains.specs.declared.Main.{Main}
 use Rattle.rules.specs.Memory.{Memory}
 use Rattle.rules.specs.Sanity.{walk}
@@ -12,7 +12,7 @@ use Rattle.theory.specs.Shown.{shown_mem}
 
 -- In the memory shown, the chunks of a hash lead to a cell at an index.
 abbrev pub Leads : {K : Type 0} → Memory K → ℕ → ℕ → ℕ → Type 0
-Leads m h index c = treeWalk chunk_at (view (shown_mem m)) h index ≡ some c
+Leads m h index c = tree_walk chunk_at (view (shown_mem m)) h index ≡ some c
 
 module _ {K : Type 0} (same : K → K → Bool) (hash : K → ℕ) where
   -- Every cell that is led to is one of the memory, and its main keeps the rules of its index.

@@ -19,7 +19,7 @@ holds words cell word = slice_index words cell == word
 abbrev pub swap_answer : List ℕ → ℕ → ℕ → Result Bool Refusal
 swap_answer words cell old = within words cell (holds words cell old)
 
--- The words after a swap: the new word in the cell if that held the old one. Beyond the bank `set` changes nothing.
+-- The words after a swap: the new word in the cell if that held the old one. Beyond the bank `slice_set` changes nothing.
 abbrev pub swapped : List ℕ → ℕ → ℕ → ℕ → List ℕ
 swapped words cell old new = cond (holds words cell old) (slice_set words cell new) words
 

@@ -3,7 +3,7 @@ use Rattle.std.proofs.Common.{◌≡◌, ℕ, suc, ◌<◌, true, false, not, eq
 use mathlib.Core.List.Memᴰ
 use mathlib.Core.List.{Memᴰ}
 use Rattle.keys.specs.Routes.{chunk_at}
-use Rattle.std.proofs.lemmas.Bool.{cases_Bool, cond_both, cond-false, and_parts, not_true, eqb-true}
+use Rattle.std.proofs.lemmas.Bool.{cases_Bool, cond_both, cond-false, and_parts, not-true, eqb-true}
 use Rattle.mains.specs.Bits.{has}
 use Rattle.mains.specs.Laws.{WellFormed, WellListed, Stands, edited}
 use Rattle.mains.specs.Lists.{listed, appended, relisted, unlisted, of_pairs}
@@ -54,7 +54,7 @@ module _ {cells : List ℕ} {pairs : ℕ} where
     where
       free : is_free n q ≡ true → Fine cells pairs (node (inserted n q x))
       free t =
-          let none = none_has n q (not_true (has n.bitmap q) (and_parts (ltb q 32) (not (has n.bitmap q)) t).1) in
+          let none = none_has n q (not-true (has n.bitmap q) (and_parts (ltb q 32) (not (has n.bitmap q)) t).1) in
           fine_edited n (inserted n q x) q (Some x) k (inserted_formed n q x k.formed) (inserted_stands n q x k.formed (free_low n q t) none) (λ b e. subst (Given cells pairs) (some_is x b e) g)
 
   pub fine_replaced : (n : Node) (q : ℕ) (x : Branch) → Fine cells pairs (node n) → Given cells pairs x → Fine cells pairs (node (replaced n q x))

@@ -3,7 +3,7 @@ use Rattle.std.proofs.Common.{◌≡◌, ℕ, zero, suc, Bool, true, false, cond
 use mathlib.Core.List.{Memᴰ}
 use mathlib.Core.Option.{none, some}
 use Rattle.std.specs.List.{slice_get, remove}
-use Rattle.std.proofs.lemmas.Bool.{and_parts, or_parts, both_ways, not_true}
+use Rattle.std.proofs.lemmas.Bool.{and_parts, or_parts, both_ways, not-true}
 use Rattle.machine.proofs.Laws.{Laws, holds, is_true}
 use Rattle.machine.proofs.Walk.{no_some}
 use Rattle.machine.specs.Machine.{gather}
@@ -89,7 +89,7 @@ module _ {K : Type 0} (same : K → K → Bool) (hash : K → ℕ) where
   alike_no_twice laws (y ∷ []) e = ((λ x j. elim j [ ]), tt)
   alike_no_twice laws (y ∷ (u ∷ ys)) e =
       let t = and_parts (not (among same hash y.key (u ∷ ys))) (alike same hash (u ∷ ys)) (and_parts (eqb (hash y.key) (hash u.key)) _ e).1 in (
-        (λ x j s. among_none y.key (u ∷ ys) (not_true (among same hash y.key (u ∷ ys)) t.0) x j (laws.symmetric y.key x.0 s)),
+        (λ x j s. among_none y.key (u ∷ ys) (not-true (among same hash y.key (u ∷ ys)) t.0) x j (laws.symmetric y.key x.0 s)),
         alike_no_twice laws (u ∷ ys) t.1,
       )
 

@@ -2,7 +2,9 @@
 use Rattle.std.proofs.Common.{◌≡◌, ℕ, zero, suc, ◌+◌, ◌-◌, ◌*◌, ◌/◌, ◌%◌, ◌^◌, ◌<◌, ◌≤◌, min, Bool, true, false, cond, eqb, sym, refl, ap, ◌∙◌, inl, inr, ⊎_elim, mod-eq_of_lt, arith, lit<}
 use native.Mathlib.Nat.{div-eq_of_lt}
 use Rattle.std.proofs.lemmas.Nat.{mod-pow-add, mod_below, pow_pos, pow_below, div-mul-add, mod-mul-add}
-use Rattle.std.proofs.lemmas.Bool.{cases_eq, cases_lt, eqb-true, eqb-false, eq-eqb, ne_eqb, cond-true, cond-false}
+use Rattle.std.proofs.lemmas.Bool.{cases_eq, cases_lt, eqb-true, eqb-false}
+use Rattle.std.specs.Prelude.{Option, Some, None, MatchOption, ◌≢◌}
+use Rattle.std.specs.Option.{unwrap_or}
 use Rattle.keys.specs.Routes.{chunk_at, prefix_at, first_apart, parting_at, Together, Parts, PrefixByChunks}
 
 -- A chunk has five bits.
@@ -102,30 +104,21 @@ module _ (h g : ℕ) where
       rw (e, f) (beyond from l))
       (cases_lt from 7)
 
-  -- One step of the search for the parting: it ends here, goes on, or has come to its end.
-  step : (index : ℕ) → index < 7 → first_apart h g (7 - index) (min index 7) ≡ cond (eqb (chunk_at h index) (chunk_at g index)) (first_apart h g (7 - (index + 1)) (min (index + 1) 7)) index
-  step index l =
-      let e : 7 - index ≡ suc (7 - (index + 1)) = omega arith in
-      let f : min index 7 ≡ index = omega arith in
-      let k : min (index + 1) 7 ≡ index + 1 = omega arith in
-      rw (e, f, k)
+  not_before : (from a b : ℕ) → Parts h g from a → Parts h g from b → a < b → ⊥
+  not_before from a b p q l =
+      let early : a ≡ 7 → ⊥ = λ e. let i = q.inside in omega arith in
+      ⊎_elim (λ (differ : chunk_at h a ≢ chunk_at g a).
+      ⊎_elim (λ (low : from ≤ a). differ (q.together a low l)) early p.onward)
+      early p.apart
 
-  module _ (from index : ℕ) (so : first_apart h g (7 - index) (min index 7) ≡ parting_at h g from) where
-    pub parting_here : index < 7 → (chunk_at h index ≡ chunk_at g index → ⊥) → index ≡ parting_at h g from
-    unfolding parting_at
-    parting_here l n = sym (step index l ∙ cond-false _ _ _ (ne_eqb (chunk_at h index) (chunk_at g index) n)) ∙ so
+  -- There is one place where the hashes part.
+  pub parting_once : (from at : ℕ) → Parts h g from at → at ≡ parting_at h g from
+  parting_once from at p =
+      let n : at < parting_at h g from → ⊥ = not_before from at (parting_at h g from) p (parting_parts from) in
+      let m : parting_at h g from < at → ⊥ = not_before from (parting_at h g from) at (parting_parts from) p in
+      omega (arith, n, m)
 
-    pub parting_on : index < 7 → chunk_at h index ≡ chunk_at g index → first_apart h g (7 - (index + 1)) (min (index + 1) 7) ≡ parting_at h g from
-    unfolding parting_at
-    parting_on l e = sym (step index l ∙ cond-true _ _ _ (eq-eqb (chunk_at h index) (chunk_at g index) e)) ∙ so
-
-    pub parting_end : 7 ≤ index → 7 ≡ parting_at h g from
-    unfolding parting_at
-    parting_end l =
-        let e : 7 - index ≡ 0 = omega arith in
-        let f : min index 7 ≡ 7 = omega arith in
-        rw (e, f) at so
-
-  -- What is the parting, parts the two.
-  pub parting_is : (from at : ℕ) → at ≡ parting_at h g from → Parts h g from at
-  parting_is from at e = rw e (parting_parts from)
+  -- It is found first among the indices from one on at which the chunks differ, or else it is 7.
+  pub parts_found : (from : ℕ) (o : Option ℕ) → MatchOption o (Together h g from 7) (λ i. (from ≤ i) × (i < 7) × (chunk_at h i ≢ chunk_at g i) × Together h g from i) → Parts h g from (unwrap_or o 7)
+  parts_found from None t = record { inside = omega arith; onward = inr refl; together = t; apart = inr refl }
+  parts_found from (Some i) (low, below, differ, t) = record { inside = omega arith; onward = inl low; together = t; apart = inl differ }

@@ -1,7 +1,9 @@
 -- Reading presses one by one: what is a code, and what is not.
-use Rattle.std.proofs.Common.{◌≡◌, ℕ, zero, suc, ◌+◌, ◌<◌, ◌≤◌, Bool, true, false, cond, ◌⊎◌, List, [], ◌∷◌, ◌++◌, length, get_or, take, set, Some, None, Ok, Err, sym, refl, ap, ◌∙◌, inl, inr, arith, take_all}
+use Rattle.std.proofs.Common.{◌≡◌, ℕ, zero, suc, ◌+◌, ◌<◌, ◌≤◌, Bool, true, false, cond, ◌⊎◌, List, [], ◌∷◌, ◌++◌, length, get_or, take, set, Some, None, Ok, Err, sym, refl, ap, ◌∙◌, inl, inr, arith, take_all, rules}
 use Rattle.std.proofs.lemmas.List.{take_more, take_more_set}
 use Rattle.std.proofs.lemmas.Bool.{and_parts, and_from, and_left, and_right, le-leb, lt-leb}
+use Rattle.std.specs.Option.{ok_or}
+use Rattle.panel.specs.declared.Refusal.{Refusal}
 use Rattle.panel.specs.declared.Refusal.TheVariants.{CodeMisread}
 use Rattle.keys.specs.Presses.{is_press, press_byte, all_presses, is_code}
 use Rattle.keys.specs.Codes.{code_read}
@@ -17,13 +19,14 @@ not_all [] i l k = absurd (omega arith)
 not_all (x ∷ xs) zero l k = and_left (is_press x) (all_presses xs) k
 not_all (x ∷ xs) (suc i) l k = and_right (is_press x) (all_presses xs) (not_all xs i (omega arith) k)
 
-some_press : (t : Bool) (c b : ℕ) → Some b ≡ cond t (Some c) None → (t ≡ true) × (b ≡ c)
-some_press true c b e = (refl, cc)
-some_press false c b e = let z : ◌≡◌ {A = ℕ} 0 1 = cc in absurd (omega arith)
+-- What a byte gives by which a press is told, or else an error.
+taken : (t : Bool) (c b : ℕ) (e : Refusal) → ok_or (cond t (Some c) None) e ≡ Ok b → (t ≡ true) × (b ≡ c)
+taken true c b e o = (refl, cc)
+taken false c b e o = search rules
 
-no_press : (t : Bool) (c : ℕ) → None ≡ cond t (Some c) None → t ≡ false
-no_press true c e = let z : ◌≡◌ {A = ℕ} 0 1 = cc in absurd (omega arith)
-no_press false c e = refl
+missed : (t : Bool) (c : ℕ) (e r : Refusal) → ok_or (cond t (Some c) None) e ≡ Err r → (t ≡ false) × (r ≡ e)
+missed true c e r o = search rules
+missed false c e r o = (refl, cc)
 
 -- What is kept so far: the front of the text, all presses, in eight places.
 pub record Kept (text kept : List ℕ) (i : ℕ) : Type 0 where
@@ -33,9 +36,9 @@ pub record Kept (text kept : List ℕ) (i : ℕ) : Type 0 where
 
 module _ (text : List ℕ) where
   -- One press more.
-  pub kept_more : (kept : List ℕ) (i b : ℕ) → i < length text → i < length kept → Some b ≡ press_byte (get_or text i 0) → length (set kept i b) ≡ length kept → Kept text kept i → Kept text (set kept i b) (i + 1)
+  pub kept_more : (kept : List ℕ) (i b : ℕ) → i < length text → i < length kept → ok_or (press_byte (get_or text i 0)) CodeMisread ≡ Ok b → length (set kept i b) ≡ length kept → Kept text kept i → Kept text (set kept i b) (i + 1)
   kept_more kept i b l k e n so =
-      let p = some_press (is_press (get_or text i 0)) (get_or text i 0) b e in
+      let p = taken (is_press (get_or text i 0)) (get_or text i 0) b CodeMisread e in
       record {
         front =
             take_more_set kept i b k
@@ -45,10 +48,11 @@ module _ (text : List ℕ) where
       }
 
   -- A byte that is no press.
-  pub misread_at : (i : ℕ) → i < length text → None ≡ press_byte (get_or text i 0) → Err CodeMisread ≡ code_read text
-  misread_at i l e =
-      let n : is_code text ≡ false = and_right _ (all_presses text) (not_all text i l (no_press (is_press (get_or text i 0)) (get_or text i 0) e)) in
-      rw n
+  pub misread_at : (i : ℕ) (r : Refusal) → i < length text → ok_or (press_byte (get_or text i 0)) CodeMisread ≡ Err r → Err r ≡ code_read text
+  misread_at i r l e =
+      let m = missed (is_press (get_or text i 0)) (get_or text i 0) CodeMisread r e in
+      let n : is_code text ≡ false = and_right _ (all_presses text) (not_all text i l m.0) in
+      rw (m.1, n)
 
   -- Too few or too many bytes.
   pub misread_length : (length text < 1) ⊎ ((1 ≤ length text) × (8 < length text)) → Err CodeMisread ≡ code_read text

@@ -1,11 +1,11 @@
--- FNV-1a gives 32 bits, and equality of codes is that of their presses.
-use Rattle.std.specs.Prelude.{◌≡◌, ℕ, ◌*◌, ◌^◌, ◌<◌, Bool, List, [], ◌∷◌, Decides, fold, bit_xor, refl}
-use Rattle.std.proofs.Common.{sym, ap, ◌∙◌, rules, lit<}
+-- FNV-1a gives 32 bits, and keys that are told apart and hashed by their bytes keep the laws of a key kind.
+use Rattle.std.specs.Prelude.{ℕ, ◌*◌, ◌^◌, ◌<◌, List, [], ◌∷◌, fold, bit_xor}
+use Rattle.std.proofs.Common.{lit<}
 use Rattle.std.specs.Str.{bytes_eq}
 use Rattle.std.proofs.lemmas.Nat.{mod_below}
 use Rattle.std.proofs.lemmas.Slice.Eq.{bytes_eq-Decides}
 use Rattle.keys.specs.Hashes.{fnv_step, fnv1a}
-use Rattle.keys.specs.Laws.{KeyLaws}
+use Rattle.keys.specs.Laws.{KeyLaws, laws_by}
 
 fold_below : (bytes : List ℕ) (h : ℕ) → h < 2 ^ 32 → fold fnv_step h bytes < 2 ^ 32
 fold_below [] h k = k
@@ -14,22 +14,8 @@ fold_below (b ∷ bytes) h k = fold_below bytes (fnv_step h b) (mod_below (bit_x
 pub fnv_below : (bytes : List ℕ) → fnv1a bytes < 2 ^ 32
 fnv_below bytes = fold_below bytes 0x811C9DC5 (lit< tt)
 
--- A test that decides whether two lists are the same is `bytes_eq` of what the lists are.
-pub same_by : (xs ys us vs : List ℕ) (r : Bool) → Decides r (xs ≡ ys) → xs ≡ us → ys ≡ vs → r ≡ bytes_eq us vs
-same_by xs ys us vs r d p q =
-    let e : r ≡ bytes_eq xs ys = search (rules, bytes_eq-Decides) in
-    e ∙ (ap (λ v. bytes_eq v ys) p ∙ ap (λ v. bytes_eq us v) q)
-
 -- Keys that are told the same by their bytes, and hashed by FNV-1a of them, keep the laws.
 pub bytes_lawful : {K : Type 0} (bytes : K → List ℕ) → KeyLaws (λ a b. bytes_eq (bytes a) (bytes b)) (λ a. fnv1a (bytes a))
 bytes_lawful bytes =
-    record {
-      reflexive = λ a. (bytes_eq-Decides (bytes a) (bytes a)).1 refl;
-      symmetric = λ a b h. (bytes_eq-Decides (bytes b) (bytes a)).1 (sym ((bytes_eq-Decides (bytes a) (bytes b)).0 h));
-      transitive =
-          λ a b c h k.
-          (bytes_eq-Decides (bytes a) (bytes c)).1
-          ((bytes_eq-Decides (bytes a) (bytes b)).0 h ∙ (bytes_eq-Decides (bytes b) (bytes c)).0 k);
-      hashed = λ a b h. ap fnv1a ((bytes_eq-Decides (bytes a) (bytes b)).0 h);
-      short = λ a. fnv_below (bytes a);
-    }
+    laws_by bytes (λ a b. bytes_eq (bytes a) (bytes b)) fnv1a (λ a b. bytes_eq-Decides (bytes a) (bytes b))
+    (λ a. fnv_below (bytes a))

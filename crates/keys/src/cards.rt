@@ -1,24 +1,17 @@
 // Cards: keys that are numbers.
-ghost use Rattle.std.specs.Prelude.{◌==◌};
 ghost use Rattle.keys.specs.Cards.{numbers_lawful};
 ghost use Rattle.keys.specs.Hashes.{card_hash};
 
 use crate::kind::Key;
 
 // A card is its number, and equal to no card of another number.
-#[derive(Clone, Copy)]
+#[derive(Clone, Copy, PartialEq, Eq)]
 pub struct Card(pub u64);
 
 impl Key for Card {
-    ghost same = { λ a b. (a.0 == b.0) };
-
     ghost hash = { λ a. card_hash a.0 };
 
     ghost lawful = { numbers_lawful (λ a. a.0) };
-
-    fn same(&self, other: &Card) -> bool {
-        self.0 == other.0
-    }
 
     fn hash(&self) -> u32 {
         let low = (self.0 & 0xFFFF_FFFF) as u32;

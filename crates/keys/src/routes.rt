@@ -35,10 +35,7 @@ pub fn parting(h: u32, g: u32, from: u32) -> u32
     ensures value { result ≡ parting_at h g from }
     ensures parts { Parts h g from result }
 {
-    for index in from..DEPTH {
-        if chunk(h, index) != chunk(g, index) {
-            return index;
-        }
-    }
-    DEPTH
+    (from..DEPTH)
+        .find(|index| chunk(h, *index) != chunk(g, *index))
+        .unwrap_or(DEPTH)
 }

@@ -8,7 +8,7 @@ ghost use Rattle.panel.specs.declared.Refusal.{Refusal};
 use std::fmt;
 
 // Why a call was refused.
-#[derive(Clone, Copy)]
+#[derive(Clone, Copy, Debug, PartialEq, Eq)]
 pub enum Refusal {
     // A figure given to format is outside its limits.
     FigureOutOfLimits = 11,

@@ -1,5 +1,7 @@
 // Reading a code, its presses, and its place among the key kinds.
 ghost use Rattle.std.specs.Prelude.{◌≡◌, ℕ};
+ghost use Rattle.std.proofs.Common.{rules};
+ghost use Rattle.std.specs.Cmp.Rules.{comparing};
 ghost use Rattle.std.specs.Str.{bytes_eq};
 ghost use Rattle.keys.specs.Codes.{presses_of, in_presses, code_read};
 ghost use Rattle.keys.specs.Hashes.{fnv1a};
@@ -21,10 +23,7 @@ impl Code {
         }
         let mut stored = [0u8; 8];
         for (i, byte) in bytes.iter().enumerate() {
-            let Some(b) = press(*byte as char) else {
-                return Err(Refusal::CodeMisread);
-            };
-            stored[i] = b;
+            stored[i] = press(char::from(*byte)).ok_or(Refusal::CodeMisread)?;
         }
         Ok(Code {
             bytes: stored,
@@ -45,8 +44,7 @@ pub fn press(c: char) -> Option<u8>
     ensures { result ≡ press_byte c }
 {
     match c {
-        '0'..='9' => Some(c as u8),
-        '*' | '#' => Some(c as u8),
+        '0'..='9' | '*' | '#' => Some(c as u8),
         _ => None,
     }
 }
@@ -55,24 +53,31 @@ pub fn press(c: char) -> Option<u8>
 pub fn fnv_1a(bytes: &[u8]) -> u32
     ensures { result ≡ fnv1a bytes.now }
 {
-    let mut h: u32 = 0x811C_9DC5;
-    for byte in bytes {
-        h = (h ^ *byte as u32).wrapping_mul(0x0100_0193);
-    }
-    h
+    bytes.iter().fold(
+        0x811C_9DC5,
+        |h: u32, byte| (h ^ u32::from(*byte)).wrapping_mul(0x0100_0193),
+    )
 }
 
 // Codes are equal if they are the same presses in the same order.
-impl Key for Code {
-    ghost same = { λ a b. bytes_eq (presses_of a) (presses_of b) };
+impl PartialEq for Code {
+    ghost eq = { λ a b. bytes_eq (presses_of a) (presses_of b) };
 
+    ghost laws = { Prim.search (comparing, rules) };
+
+    fn eq(&self, other: &Code) -> bool {
+        self.presses() == other.presses()
+    }
+}
+
+impl Eq for Code {
+    ghost laws = { Prim.search (comparing, rules) };
+}
+
+impl Key for Code {
     ghost hash = { λ a. fnv1a (presses_of a) };
 
     ghost lawful = { bytes_lawful presses_of };
-
-    fn same(&self, other: &Code) -> bool {
-        self.presses() == other.presses()
-    }
 
     fn hash(&self) -> u32 {
         fnv_1a(self.presses())

@@ -1,26 +1,21 @@
-use Rattle.std.proofs.Common.{sym, refl, ◌∙◌}
-use Rattle.keys.specs.Routes.{parting_at}
-use Rattle.keys.proofs.Chunks.{parting_is, parting_here, parting_on, parting_end}
+use Rattle.std.proofs.Common.{rules, tests, ◌≡◌}
+use Rattle.std.specs.Prelude.{◌≢◌}
+use Rattle.std.proofs.lemmas.Iterator.{first_from_Range}
+use Rattle.keys.specs.Routes.{chunk_at, Parts}
+use Rattle.keys.proofs.Chunks.{parting_once, parts_found}
 use Rattle.keys.proofs.routes.parting.Goals as goal
 
-pub loop-index-init : goal.loop-index-init
-unfolding parting_at
-loop-index-init c = refl
+parts : (c : goal.After-unwrap_or) → Parts c.args.h c.args.g c.args.from c.unwrap_or.result
+parts c =
+    let h = c.args.h in
+    let g = c.args.g in
+    rw c.unwrap_or.ensures
+    (parts_found h g c.args.from c.find.result
+    (first_from_Range _ _ _ _ (λ i. chunk_at h i ≢ chunk_at g i) (λ i. chunk_at h i ≡ chunk_at g i) c.find.ensures.ran
+    (λ x q e. search (rules, tests)) (λ x q e. (search rules, search (rules, tests)))))
 
-pub returns-then-chunk : goal.returns-then-chunk
-returns-then-chunk c =
-    let e =
-    parting_here c.args.h c.args.g c.args.from c.loop-index.index c.loop-index.invariant c.loop-index-test.true
-    (λ same. c.if-chunk.true (c.chunk.ensures.value ∙ (same ∙ sym c.chunk-in-loop-index.ensures.value))) in
-    record { value = e; parts = parting_is c.args.h c.args.g c.args.from c.loop-index.index e }
+pub returns-clause-value : goal.returns-clause-value
+returns-clause-value c = parting_once _ _ _ _ (parts c)
 
-pub loop-index-preserved : goal.loop-index-preserved
-loop-index-preserved c =
-    parting_on c.args.h c.args.g c.args.from c.loop-index.index c.loop-index.invariant c.loop-index-test.true
-    (sym c.chunk.ensures.value ∙ (c.if-chunk.false ∙ c.chunk-in-loop-index.ensures.value))
-
-pub returns : goal.returns
-returns c =
-    let e =
-    parting_end c.args.h c.args.g c.args.from c.loop-index.index c.loop-index.invariant c.loop-index-test.false in
-    record { value = e; parts = parting_is c.args.h c.args.g c.args.from 7 e }
+pub returns-clause-parts : goal.returns-clause-parts
+returns-clause-parts c = parts c

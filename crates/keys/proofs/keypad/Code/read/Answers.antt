@@ -1,4 +1,4 @@
-use Rattle.std.proofs.Common.{◌<◌, length, refl, arith, length-set}
+use Rattle.std.proofs.Common.{◌≡◌, ◌<◌, Err, rules, length, refl, arith, length-set}
 use Rattle.keys.proofs.Keypresses.{kept_more, misread_at, misread_length, read_all}
 use Rattle.keys.proofs.keypad.Code.read.Goals as goal
 
@@ -11,11 +11,14 @@ loop-i-init c = record { front = refl; presses = refl; places = refl }
 pub loop-i-preserved : goal.loop-i-preserved
 loop-i-preserved c =
     let l : c.loop-i.i < length c.loop-i.stored = omega (arith, c.loop-i.invariant.places) in
-    kept_more c.args.bytes.now c.loop-i.stored c.loop-i.i c.in-Some.b c.loop-i-test.true l c.in-Some.ensures
-    (length-set c.loop-i.stored c.loop-i.i c.in-Some.b) c.loop-i.invariant
+    kept_more c.args.bytes.now c.loop-i.stored c.loop-i.i c.in_ok-stored.field-0 c.loop-i-test.true l (search rules)
+    (length-set c.loop-i.stored c.loop-i.i c.in_ok-stored.field-0) c.loop-i.invariant
 
-pub returns-in_default : goal.returns-in_default
-returns-in_default c = misread_at c.args.bytes.now c.loop-i.i c.loop-i-test.true c.in_default.ensures
+pub returns-in_err-stored : goal.returns-in_err-stored
+returns-in_err-stored c =
+    let e : c.from_residual.result ≡ Err c.in_err-stored.field-0.0 = search rules in
+    let m = misread_at c.args.bytes.now c.loop-i.i c.in_err-stored.field-0.0 c.loop-i-test.true (search rules) in
+    rw e m
 
 pub returns : goal.returns
 returns c =

@@ -2,16 +2,12 @@
 use Rattle.std.proofs.Common.{◌≡◌, ℕ, zero, suc, ◌+◌, ◌-◌, ◌<◌, ◌≤◌, min, eqb, leb, ◌⊎◌, List, [], ◌∷◌, ◌++◌, map, length, get_or, take, fold, sym, refl, ap, ◌∙◌, subst, inl, inr, ⊎_elim, add_assoc, arith}
 use Rattle.std.proofs.lemmas.Bool.Decides.{nat_tests}
 use Rattle.std.proofs.lemmas.Bool.{eq-eqb, ne_eqb, cases_lt, lt-ltb, le-ltb, le-leb, lt-leb}
-use Rattle.std.proofs.lemmas.List.Sums.{fold_more}
+use Rattle.std.proofs.lemmas.List.{map_push}
 use Rattle.keys.specs.Routes.{prefix_at, parting_at, Parts}
 use Rattle.keys.proofs.Chunks.{prefix_by_chunks, parting_parts}
 use Rattle.sizing.specs.Demand.{occurrences, repeats, shared_prefixes, summed, cells_for}
 use Rattle.sizing.specs.Depths.{larger_two, deepest_two_of}
 use Rattle.sizing.proofs.Repeats.{one_if, repeats_push}
-
-pub map_push : {A B : Type 0} (f : A → B) (xs : List A) (x : A) → map f (xs ++ (x ∷ [])) ≡ map f xs ++ (f x ∷ [])
-map_push f [] x = refl
-map_push f (y ∷ xs) x = ap (λ ys. f y ∷ ys) (map_push f xs x)
 
 -- How many of some hashes go along with another to an index: the two deepest tell it, up to two.
 abbrev Told : ℕ × ℕ → ℕ → ℕ → Type 0
@@ -99,24 +95,6 @@ summed_add f g k (suc n) e =
 summed_steps : (a b n : ℕ) → b ≤ a → summed (λ index. one_if (leb index a) - one_if (leb index b)) n ≡ min a n - min b n
 summed_steps a b zero o = omega arith
 summed_steps a b (suc n) o = let below = summed_steps a b n o in grind (arith, nat_tests)
-
--- One step of looking for the two deepest.
-pub deepest_more : (h : ℕ) (others : List ℕ) (i : ℕ) (two next : ℕ × ℕ) (depth : ℕ) → i < length others → two ≡ deepest_two_of h (take i others) → depth ≡ parting_at h (get_or others i 0) 0 → next ≡ larger_two two depth → next ≡ deepest_two_of h (take (i + 1) others)
-unfolding deepest_two_of
-deepest_more h others i two next depth l so d e =
-    e
-    ∙ (ap (λ n. larger_two two n) d
-    ∙ (ap (λ t. larger_two t (parting_at h (get_or others i 0) 0)) so ∙ sym (fold_more (deeper h) (0, 0) others i 0 l)))
-
-module _ (a b depth : ℕ) where
-  pub larger_first : a < depth → (depth, a) ≡ larger_two (a, b) depth
-  larger_first l = let t = lt-ltb a depth l in rw t
-
-  pub larger_second : depth ≤ a → b < depth → (a, depth) ≡ larger_two (a, b) depth
-  larger_second l k = let t = le-ltb a depth l in let u = lt-ltb b depth k in rw (t, u)
-
-  pub larger_none : depth ≤ a → depth ≤ b → (a, b) ≡ larger_two (a, b) depth
-  larger_none l k = let t = le-ltb a depth l in let u = le-ltb b depth k in rw (t, u)
 
 -- The cells for one hash more.
 pub cells_more : (hashes : List ℕ) (h : ℕ) → cells_for (hashes ++ (h ∷ [])) ≡ cells_for hashes + ((deepest_two_of h hashes).0 - (deepest_two_of h hashes).1)

@@ -4,5 +4,4 @@ pub mod Choosing
 pub mod Below
 pub mod Deepest
 pub mod Progress
-pub mod Held
 pub mod Routing

@@ -2,8 +2,8 @@
 #![tactic(auto)]
 
 ghost use Rattle.std.specs.Prelude.{◌≡◌, ℕ, map, IfOk};
-ghost use Rattle.sizing.specs.Demand.{holds, capacity_of, within_limits_of};
-ghost use Rattle.sizing.specs.Depths.{deepest_two_of};
+ghost use Rattle.sizing.specs.Demand.{different, cells_for, capacity_of, within_limits_of};
+ghost use Rattle.sizing.specs.Depths.{larger_two, deepest_two_of};
 ghost use Rattle.sizing.specs.Law.{Counts};
 
 pub mod lines;
@@ -40,55 +40,61 @@ impl Capacity {
 
 // The pairs and cells that a table at rest with exactly these keys needs; equal keys count once.
 pub fn capacity_for<K: Key>(heap: Global, keys: &[K]) -> Result<Capacity, AllocError>
-    ensures figures { IfOk result (λ c. c ≡ capacity_of K.Key.same K.Key.hash keys.now) }
-    ensures counts { IfOk result (λ c. Counts K.Key.same K.Key.hash keys.now c) }
+    ensures figures { IfOk result (λ c. c ≡ capacity_of K.eq K.hash keys.now) }
+    ensures counts { IfOk result (λ c. Counts K.eq K.hash keys.now c) }
 {
-    let mut chosen: Vec<K> = Vec::new(heap);
-    let mut hashes: Vec<u32> = Vec::new(heap);
-    let mut cells = 1;
-    for key in keys {
-        if is_held(chosen.as_slice(), key) {
-            continue;
-        }
-        let hash = key.hash();
-        let (deepest, second) = deepest_two(hash, hashes.as_slice());
-        chosen.push(*key)?;
-        hashes.push(hash)?;
-        // Past `second`, up to `deepest`, the new key is the second one to share a prefix.
-        cells += (deepest - second) as usize;
-    }
+    let chosen = different(heap, keys)?;
+    let hashes: Vec<u32> = chosen.iter().map(|key| key.hash()).collect(heap)?;
     Ok(Capacity {
         pairs: chosen.len(),
-        cells,
+        cells: cells_for(hashes.as_slice()),
     })
 }
 
-// Whether an equal key is among them.
-fn is_held<K: Key>(keys: &[K], key: &K) -> bool
-    ensures { result ≡ holds K.Key.same keys.now key.now }
+// The keys in the order in which they come, those that equal an earlier one left out.
+fn different<K: Key>(heap: Global, keys: &[K]) -> Result<Vec<K>, AllocError>
+    ensures { IfOk result (λ chosen. chosen.items ≡ different K.eq keys.now) }
 {
-    for k in keys {
-        if k.same(key) {
-            return true;
+    let mut chosen = Vec::new(heap);
+    for key in keys {
+        if !chosen.contains(key) {
+            chosen.push(*key)?;
         }
     }
-    false
+    Ok(chosen)
+}
+
+// The cells for different keys with these hashes.
+fn cells_for(hashes: &[u32]) -> usize
+    ensures { result ≡ cells_for hashes.now }
+{
+    let mut cells = 1;
+    for (i, hash) in hashes.iter().enumerate() {
+        // Past `second`, up to `deepest`, this key is the second one to share a prefix.
+        let (deepest, second) = deepest_two(*hash, &hashes[..i]);
+        cells += (deepest - second) as usize;
+    }
+    cells
 }
 
 // The two deepest indices at which a hash parts from others.
+#[tactic(auto, unfolding(crate::specs::Depths::deepest_two_of))]
 fn deepest_two(hash: u32, others: &[u32]) -> (u32, u32)
     ensures { result ≡ deepest_two_of hash others.now }
 {
-    let mut deepest = 0;
-    let mut second = 0;
-    for other in others {
-        let depth = parting(hash, *other, 0);
-        if depth > deepest {
-            second = deepest;
-            deepest = depth;
-        } else if depth > second {
-            second = depth;
-        }
+    others
+        .iter()
+        .fold((0, 0), |two, other| larger_two(two, parting(hash, *other, 0)))
+}
+
+// The two largest of two numbers, the larger first, and one more.
+fn larger_two(two: (u32, u32), more: u32) -> (u32, u32)
+    ensures { result ≡ larger_two two more }
+{
+    let (largest, second) = two;
+    if more > largest {
+        (more, largest)
+    } else {
+        (largest, second.max(more))
     }
-    (deepest, second)
 }

@@ -1,7 +1,16 @@
--- The text of a route, from the chunks that were found.
-use Rattle.std.proofs.Common.{◌≡◌, ℕ}
+-- The text of a route, chunk by chunk.
+use Rattle.std.proofs.Common.{◌≡◌, ℕ, zero, suc, ◌+◌, ◌-◌, ◌≤◌, List, ◌++◌, append_assoc, refl, codes, decimal, arith}
 use Rattle.keys.specs.Routes.{chunk_at}
-use Rattle.sizing.specs.Lines.{pointed, route_text}
+use Rattle.sizing.specs.Lines.{route_text}
 
-pub route_by : (h a b c d e f g : ℕ) → a ≡ chunk_at h 0 → b ≡ chunk_at h 1 → c ≡ chunk_at h 2 → d ≡ chunk_at h 3 → e ≡ chunk_at h 4 → f ≡ chunk_at h 5 → g ≡ chunk_at h 6 → pointed a b c d e f g ≡ route_text h
-route_by h a b c d e f g p q r s t u v = rw (p, q, r, s, t, u, v)
+-- The first chunk and some more, with a point before each.
+abbrev pub route_to : ℕ → ℕ → List ℕ
+route_to h zero = decimal (chunk_at h 0)
+route_to h (suc more) = route_to h more ++ (codes "." ++ decimal (chunk_at h (suc more)))
+
+pub route_more : (h index : ℕ) → 1 ≤ index → route_to h (index - 1) ++ (codes "." ++ decimal (chunk_at h index)) ≡ route_to h (index + 1 - 1)
+route_more h zero l = absurd (omega arith)
+route_more h (suc more) l = let e : suc more + 1 - 1 ≡ suc more = omega arith in let f : suc more - 1 ≡ more = omega arith in rw (e, f)
+
+pub route_whole : (h : ℕ) → route_to h 6 ≡ route_text h
+route_whole h = simp append_assoc refl

@@ -82,9 +82,10 @@ fn cells_for(hashes: &[u32]) -> usize
 fn deepest_two(hash: u32, others: &[u32]) -> (u32, u32)
     ensures { result ≡ deepest_two_of hash others.now }
 {
-    others
-        .iter()
-        .fold((0, 0), |two, other| larger_two(two, parting(hash, *other, 0)))
+    others.iter().fold(
+        (0, 0),
+        |two, other| larger_two(two, parting(hash, *other, 0)),
+    )
 }
 
 // The two largest of two numbers, the larger first, and one more.

@@ -2,7 +2,7 @@
 ghost use Rattle.std.specs.Prelude.{Some};
 ghost use Rattle.sizing.specs.Lines.{Names, route_text};
 
-use keys::routes::chunk;
+use keys::routes::{DEPTH, chunk};
 use keys::{Card, Code};
 use numerals::number;
 use panel::Refusal;
@@ -46,13 +46,10 @@ impl fmt::Display for Route {
     ghost output = { λ r. Some (route_text r.0) };
 
     fn fmt<W: fmt::Write>(&self, f: &mut fmt::Formatter<W>) -> fmt::Result {
-        let c0 = chunk(self.0, 0);
-        let c1 = chunk(self.0, 1);
-        let c2 = chunk(self.0, 2);
-        let c3 = chunk(self.0, 3);
-        let c4 = chunk(self.0, 4);
-        let c5 = chunk(self.0, 5);
-        let c6 = chunk(self.0, 6);
-        write!(f, "{c0}.{c1}.{c2}.{c3}.{c4}.{c5}.{c6}")
+        write!(f, "{}", chunk(self.0, 0))?;
+        for index in 1..DEPTH {
+            write!(f, ".{}", chunk(self.0, index))?;
+        }
+        Ok(())
     }
 }

@@ -1,6 +1,5 @@
-use Rattle.std.proofs.Common.{◌≡◌, ℕ, ◌+◌, ◌≤◌, subst, sym, refl, arith}
+use Rattle.std.proofs.Common.{ℕ, ◌+◌, ◌≤◌, subst, sym, refl, arith}
 use Rattle.sizing.specs.Demand.{cells_for}
-use Rattle.sizing.specs.Depths.{deepest_two_of}
 use Rattle.sizing.proofs.Deepest.{deepest_ordered}
 use Rattle.sizing.proofs.Progress.{cells_one_more, cells_fit}
 use Rattle.sizing.proofs.cells_for.Goals as goal

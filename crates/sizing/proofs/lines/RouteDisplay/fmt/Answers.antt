@@ -1,12 +1,26 @@
-use Rattle.std.proofs.Common.{ℕ, List, subst, append_assoc}
+use Rattle.std.proofs.Common.{◌≡◌, ◌-◌, ◌++◌, codes, decimal, refl, ap, ◌∙◌, subst, List, ℕ, arith}
+use Rattle.std.proofs.lemmas.Grind.{put_two}
 use Rattle.std.specs.Fmt.{HasWritten}
-use Rattle.sizing.proofs.Routing.{route_by}
+use Rattle.sizing.proofs.Routing.{route_to, route_more, route_whole}
 use Rattle.sizing.proofs.lines.RouteDisplay.fmt.Goals as goal
+
+pub loop-index-init : goal.loop-index-init
+loop-index-init g c =
+    λ plain.
+    subst (λ (l : List ℕ). HasWritten g.W.Write.write_str_gives c.args.f.now l c.write.new.self) (ap decimal c.chunk.ensures.value)
+    (c.in_ok-write.ensures.writes plain refl)
+
+pub loop-index-preserved : goal.loop-index-preserved
+loop-index-preserved g c =
+    λ plain.
+    let so = c.loop-index.invariant plain in
+    put_two g.W.Write.write_str_gives _ _ _ _ _ _ so (c.in_ok-write-2.ensures.writes so.plain refl)
+    (ap (λ (n : ℕ). route_to c.args.self.now.0 (c.loop-index.index - 1) ++ (codes "." ++ decimal n)) c.chunk-in-loop-index.ensures.value
+    ∙ route_more c.args.self.now.0 c.loop-index.index c.loop-index.auto.index)
 
 pub returns-clause-writes : goal.returns-clause-writes
 returns-clause-writes g c =
     λ plain ok.
-    subst (λ (l : List ℕ). HasWritten g.W.Write.write_str_gives c.args.f.now l c.write.new.self)
-    (route_by c.args.self.now.0 _ _ _ _ _ _ _ c.chunk-c0.ensures.value c.chunk-c1.ensures.value c.chunk-c2.ensures.value
-    c.chunk-c3.ensures.value c.chunk-c4.ensures.value c.chunk-c5.ensures.value c.chunk-c6.ensures.value)
-    (simp append_assoc at (c.write.ensures.writes plain ok))
+    let end : c.loop-index.index - 1 ≡ 6 = omega arith in
+    subst (λ (l : List ℕ). HasWritten g.W.Write.write_str_gives c.args.f.now l c.loop-index.f)
+    (ap (route_to c.args.self.now.0) end ∙ route_whole c.args.self.now.0) (c.loop-index.invariant plain)

@@ -19,22 +19,14 @@ pub enum KeyLine {
 pub fn read_key(line: &[u8]) -> Result<KeyLine, Refusal>
     ensures { Names line.now result }
 {
-    if line.len() < 5 {
-        return Err(Refusal::LineMalformed);
-    }
-    let (name, text) = line.split_at(5);
-    if name == b"card=".as_slice() {
-        match number(text) {
-            Some(n) => Ok(KeyLine::OfCard(Card(n))),
-            None => Err(Refusal::LineMalformed),
+    let (name, text) = line.split_at_checked(5).ok_or(Refusal::LineMalformed)?;
+    match name {
+        b"card=" => {
+            let n = number(text).ok_or(Refusal::LineMalformed)?;
+            Ok(KeyLine::OfCard(Card(n)))
         }
-    } else if name == b"code=".as_slice() {
-        match Code::read(text) {
-            Ok(code) => Ok(KeyLine::OfCode(code)),
-            Err(refusal) => Err(refusal),
-        }
-    } else {
-        Err(Refusal::LineMalformed)
+        b"code=" => Ok(KeyLine::OfCode(Code::read(text)?)),
+        _ => Err(Refusal::LineMalformed),
     }
 }
 

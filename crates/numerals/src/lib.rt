@@ -7,21 +7,14 @@ ghost use Rattle.std.specs.Prelude.{◌≡◌, ℕ, ◌^◌, ◌<◌, decimal, M
 pub fn number(text: &[u8]) -> Option<u64>
     ensures { MatchOption result ((n : ℕ) → n < 2 ^ 64 → text.now ≢ decimal n) (λ n. text.now ≡ decimal n) }
 {
-    if text.len() == 0 {
-        return None;
-    }
+    let first = *text.first()?;
     // `parse` would take a plus sign and leading zeros.
-    if text[0] == b'+' {
+    if first == b'+' {
         return None;
     }
-    if text[0] == b'0' && text.len() > 1 {
+    if first == b'0' && text.len() > 1 {
         return None;
     }
-    let Ok(digits) = std::str::from_utf8(text) else {
-        return None;
-    };
-    match digits.parse::<u64>() {
-        Ok(n) => Some(n),
-        Err(_) => None,
-    }
+    let n = std::str::from_utf8(text).ok()?.parse::<u64>().ok()?;
+    Some(n)
 }

@@ -10,21 +10,12 @@ use std::io::{BufRead, BufReader};
 fn main(rt: HostRuntime) -> io::Result<()> {
     let mut cards: Vec<Card> = Vec::new(rt.alloc());
     let mut codes: Vec<Code> = Vec::new(rt.alloc());
-    let mut number = 0u64;
-    for line in BufReader::new(rt.alloc(), rt.stdin())?.split(rt.alloc(), b'\n') {
+    let lines = BufReader::new(rt.alloc(), rt.stdin())?.split(rt.alloc(), b'\n');
+    for (line, number) in lines.zip(1..=u64::MAX) {
         let line = line?;
-        number = number.saturating_add(1);
         match read_key(line.as_slice()) {
-            Ok(key) => match key {
-                KeyLine::OfCard(card) => {
-                    show_key(&rt, line.as_slice(), card.hash())?;
-                    cards.push(card)?;
-                }
-                KeyLine::OfCode(code) => {
-                    show_key(&rt, line.as_slice(), code.hash())?;
-                    codes.push(code)?;
-                }
-            },
+            Ok(KeyLine::OfCard(card)) => take_key(&rt, line.as_slice(), card, &mut cards)?,
+            Ok(KeyLine::OfCode(code)) => take_key(&rt, line.as_slice(), code, &mut codes)?,
             Err(refusal) => println!(rt; "{refusal} line={number}")?,
         }
     }
@@ -32,11 +23,14 @@ fn main(rt: HostRuntime) -> io::Result<()> {
     show_figures(&rt, "code", codes.as_slice())
 }
 
-// The line of a key, with its hash and its route.
-fn show_key(rt: &HostRuntime, line: &[u8], hash: u32) -> io::Result<()> {
+// Prints the line of a key with its hash and its route, and keeps the key.
+fn take_key<K: Key>(rt: &HostRuntime, line: &[u8], key: K, keys: &mut Vec<K>) -> io::Result<()> {
     let text = String::from_utf8_lossy(rt.alloc(), line)?;
+    let hash = key.hash();
     let route = Route(hash);
-    println!(rt; "{text} hash={hash:#010x} route={route}")
+    println!(rt; "{text} hash={hash:#010x} route={route}")?;
+    keys.push(key)?;
+    Ok(())
 }
 
 // What a table of these keys needs, and whether a table may be so large.

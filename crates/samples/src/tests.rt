@@ -31,7 +31,7 @@ fn fnv_1a_gives_the_published_vectors(rt: HostRuntime) {
 
 #[test]
 fn the_code_gives_the_sample_figures(rt: HostRuntime) -> Result<(), Fail> {
-    let one = code_hash(b"1");
+    let one = Code::read(b"1")?.hash();
     let figures = [
         Card(4294967296).hash(),
         chunk(33, 0),
@@ -53,31 +53,17 @@ fn cells_beside_one(rt: &(impl Abort + AllocGlobal), other: u64) -> Result<u32, 
     Ok((needs.cells & 0xFFFF) as u32)
 }
 
-fn code_hash(text: &[u8]) -> u32 {
-    match Code::read(text) {
-        Ok(code) => code.hash(),
-        Err(_) => 0,
-    }
-}
-
 // What every bank of three cells does, whatever it lies in.
 fn behaves<B: Bank>(rt: &impl Abort, bank: &mut B) {
     assert_eq!(rt; bank.size(), 3);
-    assert_eq!(rt; bank.put(2, 0xABCD).is_ok(), true);
-    assert_eq!(rt; bank.swap(2, 0xABCD, 7).ok(), Some(true));
-    assert_eq!(rt; bank.swap(2, 0xABCD, 8).ok(), Some(false));
-    assert_eq!(rt; replace(bank, 2, 9).ok(), Some(7));
-    assert_eq!(rt; bank.read(2).ok(), Some(9));
-    assert_eq!(rt; bank.read(1).ok(), Some(0));
-    assert_eq!(rt; refusal(bank.read(3)), 51);
-    assert_eq!(rt; refusal(replace(bank, 3, 1)), 51);
-}
-
-fn refusal(r: Result<u16, Refusal>) -> u8 {
-    match r {
-        Ok(_) => 0,
-        Err(e) => e.number(),
-    }
+    assert_eq!(rt; bank.put(2, 0xABCD), Ok(()));
+    assert_eq!(rt; bank.swap(2, 0xABCD, 7), Ok(true));
+    assert_eq!(rt; bank.swap(2, 0xABCD, 8), Ok(false));
+    assert_eq!(rt; replace(bank, 2, 9), Ok(7));
+    assert_eq!(rt; bank.read(2), Ok(9));
+    assert_eq!(rt; bank.read(1), Ok(0));
+    assert_eq!(rt; bank.read(3).map_err(Refusal::number), Err(51));
+    assert_eq!(rt; replace(bank, 3, 1).map_err(Refusal::number), Err(51));
 }
 
 #[test]
@@ -94,8 +80,8 @@ fn all_banks_behave_alike(rt: HostRuntime) {
 fn bytes_lie_high_first(rt: HostRuntime) {
     let mut bytes = [0x12, 0x34, 0x56, 0x78];
     let bank = ByteBank::over(&mut bytes);
-    assert_eq!(rt; bank.read(0).ok(), Some(0x1234));
-    assert_eq!(rt; bank.read(1).ok(), Some(0x5678));
+    assert_eq!(rt; bank.read(0), Ok(0x1234));
+    assert_eq!(rt; bank.read(1), Ok(0x5678));
 }
 
 #[test]

@@ -11,9 +11,8 @@ use Rattle.rules.specs.Seats.{seat_of, no_seat, idle_seat, opened_seat, is_idle,
 use Rattle.rules.specs.declared.Ask.{Ask}
 use Rattle.rules.specs.declared.Figures.{Figures}
 use Rattle.rules.specs.declared.Seat.{Seat}
+use Rattle.rules.specs.declared.Stamped.{Stamped}
 use Rattle.rules.specs.declared.Tally.{Tally}
-use Rattle.rules.specs.declared.Withdrawn.{Withdrawn}
-use Rattle.rules.specs.declared.Withdrawn.TheVariants.{Undone, Settled}
 
 -- A call's answer, and the state after it.
 pub record Left (K R : Type 0) : Type 0 where
@@ -111,11 +110,11 @@ opened s t ask key =
 -- WITHDRAW
 
 -- What a withdrawal of an open call answers.
-abbrev pub withdrawal : Seat → Withdrawn
-withdrawal x = cond x.verdict.settled (Settled (stamped_by x)) Undone
+abbrev pub withdrawal : Seat → Option Stamped
+withdrawal x = cond x.verdict.settled (Some (stamped_by x)) None
 
 -- No such seat, no open call; else the seat is freed, and no tick counts.
-abbrev pub withdrawn : {K : Type 0} → State K → ℕ → Left K Withdrawn
+abbrev pub withdrawn : {K : Type 0} → State K → ℕ → Left K (Option Stamped)
 withdrawn s t =
     cond (no_seat s t) (refused_as s NoSuchSeat)
     (cond (is_idle (seat_of s t).phase) (refused_as s SeatIdle)

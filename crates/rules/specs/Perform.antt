@@ -21,8 +21,7 @@ use Rattle.rules.specs.declared.Phase.TheVariants.{Idle, Read, Swap, Climb, Pare
 use Rattle.rules.specs.declared.Plan.{Plan}
 use Rattle.rules.specs.declared.Plan.TheVariants.{Refuse, Quit, Finish, Settle, Close, Go, Make}
 use Rattle.rules.specs.declared.Seat.{Seat}
-use Rattle.rules.specs.declared.Turned.{Turned}
-use Rattle.rules.specs.declared.Turned.TheVariants.{Going, Finished}
+use Rattle.rules.specs.declared.Stamped.{Stamped}
 
 -- THE PLACES TAKEN
 
@@ -102,7 +101,7 @@ module _ {K : Type 0} (same : K → K → Bool) (hash : K → ℕ) where
 -- What a turn leaves: the state, its answer, and the result that it fixed, if it did.
 pub record Out (K : Type 0) : Type 0 where
   pub state : State K
-  pub answer : Result Turned Refusal
+  pub answer : Result (Option Stamped) Refusal
   pub fixed : Option Outcome
 
 -- The state with other memory, one seat's record anew and another tick count.
@@ -177,13 +176,13 @@ module _ {K : Type 0} (s : State K) (t : ℕ) where
   finished words r stamp fixed =
       record {
         state = seated s (worded s.memory words) t idle_seat (suc s.table.ticks);
-        answer = Ok (Finished (record { outcome = r; stamp = stamp }));
+        answer = Ok (Some (record { outcome = r; stamp = stamp }));
         fixed = fixed;
       }
 
   -- The call goes on.
   abbrev pub going : Memory K → Seat → Option Outcome → Out K
-  going memory x fixed = record { state = seated s memory t x (suc s.table.ticks); answer = Ok Going; fixed = fixed }
+  going memory x fixed = record { state = seated s memory t x (suc s.table.ticks); answer = Ok None; fixed = fixed }
 
 module _ {K : Type 0} (same : K → K → Bool) (hash : K → ℕ) where
   -- What is done with a plan, in the places taken. Too few places come before a full table.

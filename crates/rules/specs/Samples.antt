@@ -1,5 +1,5 @@
 -- Scripts run on the definitions, for the checker to compute.
-use Rattle.std.specs.Prelude.{◌≡◌, ℕ, Bool, List, [], ◌∷◌, replicate, Ok, Err, ◌==◌}
+use Rattle.std.specs.Prelude.{◌≡◌, ℕ, Bool, List, [], ◌∷◌, replicate, Some, None, Ok, Err, ◌==◌}
 use Rattle.keys.specs.Hashes.{card_hash}
 use Rattle.keys.specs.declared.cards.Card.{Card}
 use Rattle.panel.specs.declared.Refusal.TheVariants.{SeatIdle, TableFull}
@@ -14,8 +14,6 @@ use Rattle.rules.specs.declared.Outcome.{Outcome}
 use Rattle.rules.specs.declared.Outcome.TheVariants.{Found, Stored, Removed}
 use Rattle.rules.specs.declared.Reply.{Reply}
 use Rattle.rules.specs.declared.Reply.TheVariants.{Opened, Turned, Withdrew, Counted}
-use Rattle.rules.specs.declared.Turned.TheVariants.{Going, Finished}
-use Rattle.rules.specs.declared.Withdrawn.TheVariants.{Settled}
 
 -- A card by its number.
 abbrev pub card : ℕ → Card
@@ -84,11 +82,11 @@ taking cells mains pairs = record { cells = cells; mains = mains; pairs = pairs 
 
 -- A turn that goes on.
 abbrev pub going : Reply
-going = Turned (Ok Going)
+going = Turned (Ok None)
 
 -- A turn that finishes.
 abbrev pub finishes : Outcome → ℕ → Reply
-finishes r stamp = Turned (Ok (Finished (record { outcome = r; stamp = stamp })))
+finishes r stamp = Turned (Ok (Some (record { outcome = r; stamp = stamp })))
 
 -- Two boards put at one cell: the second loses its swap, reads again and splits.
 abbrev pub collision : List Line
@@ -144,7 +142,7 @@ Helping =
     ∷ (going
     ∷ (going
     ∷ (going
-    ∷ (Withdrew (Ok (Settled (record { outcome = Removed 70; stamp = 11 })))
+    ∷ (Withdrew (Ok (Some (record { outcome = Removed 70; stamp = 11 })))
     ∷ (Counted (record { pairs = 1; cells = 2; tombs = 1; «open» = 0; ticks = 13 })
     ∷ (Opened (Ok 5)
     ∷ (going
@@ -193,7 +191,7 @@ Deep =
     ∷ (going
     ∷ (going
     ∷ (going
-    ∷ (Withdrew (Ok (Settled (record { outcome = Removed 70; stamp = 13 })))
+    ∷ (Withdrew (Ok (Some (record { outcome = Removed 70; stamp = 13 })))
     ∷ (Counted (record { pairs = 1; cells = 8; tombs = 1; «open» = 0; ticks = 13 }) ∷ []))))))))))))))))))
 
 -- Beside card 1, a put of 33: refused as full with one cell, stored with two.

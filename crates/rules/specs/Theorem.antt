@@ -1,5 +1,5 @@
 -- The log theorem: what holds after any history on a formatted table.
-use Rattle.std.specs.Prelude.{◌≡◌, ℕ, ◌<◌, ◌≤◌, Bool, true, false, ◌⊎◌, List, [], ◌∷◌, length, Some, Ok, Err, ◌≢◌}
+use Rattle.std.specs.Prelude.{◌≡◌, ℕ, ◌<◌, ◌≤◌, Bool, true, false, ◌⊎◌, List, [], ◌∷◌, length, Some, None, Ok, Err, Option, ◌≢◌}
 use mathlib.Core.List.{Memᴰ}
 use Rattle.keys.specs.Laws.{KeyLaws}
 use Rattle.keys.specs.Routes.{prefix_at}
@@ -19,9 +19,7 @@ use Rattle.rules.specs.declared.Outcome.{Outcome}
 use Rattle.rules.specs.declared.Pair.{Pair}
 use Rattle.rules.specs.declared.Reply.{Reply}
 use Rattle.rules.specs.declared.Reply.TheVariants.{Opened, Turned, Withdrew}
-use Rattle.rules.specs.declared.Turned.TheVariants.{Going, Finished}
-use Rattle.rules.specs.declared.Withdrawn.{Withdrawn}
-use Rattle.rules.specs.declared.Withdrawn.TheVariants.{Settled}
+use Rattle.rules.specs.declared.Stamped.{Stamped}
 
 -- A call with its result and stamp: the number that its opening answered, what was asked, and the ticks then.
 pub record StampedCall (K : Type 0) : Type 0 where
@@ -49,9 +47,9 @@ module _ {K : Type 0} (h : History K) where
 
   -- Its finish or its withdrawal answered result and stamp, or it is open and a withdrawal now would.
   pub data Ends (s : State K) (t : ℕ) (c : StampedCall K) : Type 0 where
-    finished : (e : ℕ) → TurnOf t c.number e (Turned (Ok (Finished (record { outcome = c.result; stamp = c.stamp })))) → Ends s t c
-    withdrew : (e : ℕ) → WithdrawalOf t c.number e (Withdrew (Ok (Settled (record { outcome = c.result; stamp = c.stamp })))) → Ends s t c
-    standing : (seat_of s t).number ≡ c.number → (withdrawn s t).answer ≡ Ok (Settled (record { outcome = c.result; stamp = c.stamp })) → Ends s t c
+    finished : (e : ℕ) → TurnOf t c.number e (Turned (Ok (Some (record { outcome = c.result; stamp = c.stamp })))) → Ends s t c
+    withdrew : (e : ℕ) → WithdrawalOf t c.number e (Withdrew (Ok (Some (record { outcome = c.result; stamp = c.stamp })))) → Ends s t c
+    standing : (seat_of s t).number ≡ c.number → (withdrawn s t).answer ≡ Ok (Some (record { outcome = c.result; stamp = c.stamp })) → Ends s t c
 
   -- The call was opened and has a result and a stamp.
   pub record IsStamped (s : State K) (c : StampedCall K) : Type 0 where
@@ -65,7 +63,7 @@ module _ {K : Type 0} (h : History K) where
     pub asked : Asked seat c
     pub reply : Reply
     pub turned : TurnOf seat c.number c.stamp reply
-    pub counted : (reply ≡ Turned (Ok Going)) ⊎ (reply ≡ Turned (Ok (Finished (record { outcome = c.result; stamp = c.stamp }))))
+    pub counted : (reply ≡ Turned (Ok None)) ⊎ (reply ≡ Turned (Ok (Some (record { outcome = c.result; stamp = c.stamp }))))
     pub later : c.at < c.stamp
 
 -- The opening numbers of some calls.
@@ -88,7 +86,7 @@ pub record Ordered {K : Type 0} (h : History K) (s : State K) (calls : List (Sta
   pub opened_once : (c d : StampedCall K) (t u : ℕ) → Asked h t c → Asked h u d → c.number ≡ d.number → (t ≡ u) × (c.ask ≡ d.ask) × (c.key ≡ d.key) × (c.at ≡ d.at)
   -- The stamp is the number of a turn of its own call, and not after its end, which tells the same result and stamp.
   pub own : (c : StampedCall K) → Memᴰ c calls → OwnTurn h c
-  pub before_end : (c : StampedCall K) → Memᴰ c calls → (t e : ℕ) (r : Outcome) (n : ℕ) → TurnOf h t c.number e (Turned (Ok (Finished (record { outcome = r; stamp = n })))) ⊎ WithdrawalOf h t c.number e (Withdrew (Ok (Settled (record { outcome = r; stamp = n })))) → (r ≡ c.result) × (n ≡ c.stamp) × (c.stamp ≤ e)
+  pub before_end : (c : StampedCall K) → Memᴰ c calls → (t e : ℕ) (r : Outcome) (n : ℕ) → TurnOf h t c.number e (Turned (Ok (Some (record { outcome = r; stamp = n })))) ⊎ WithdrawalOf h t c.number e (Withdrew (Ok (Some (record { outcome = r; stamp = n })))) → (r ≡ c.result) × (n ≡ c.stamp) × (c.stamp ≤ e)
   pub before_now : (c : StampedCall K) → Memᴰ c calls → c.stamp ≤ s.table.ticks
 
 module _ {K : Type 0} (same : K → K → Bool) where
@@ -144,7 +142,7 @@ AtRest s = (t : ℕ) → is_idle (seat_of s t).phase ≡ true
 
 -- No open call was withdrawn.
 abbrev pub NoneWithdrawn : {K : Type 0} → History K → Type 0
-NoneWithdrawn {K} h = (e : Event K) → Memᴰ e h → (w : Withdrawn) → e.reply ≢ Withdrew (Ok w)
+NoneWithdrawn {K} h = (e : Event K) → Memᴰ e h → (w : Option Stamped) → e.reply ≢ Withdrew (Ok w)
 
 -- No opening and no turn was refused for its memory.
 pub record NeverUnfit {K : Type 0} (h : History K) : Type 0 where

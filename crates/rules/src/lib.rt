@@ -189,20 +189,6 @@ pub enum Plan {
     },
 }
 
-// What a turn answers.
-#[derive(Clone, Copy)]
-pub enum Turned {
-    Going,
-    Finished(Stamped),
-}
-
-// What a withdrawal answers.
-#[derive(Clone, Copy)]
-pub enum Withdrawn {
-    Undone,
-    Settled(Stamped),
-}
-
 // What a count answers.
 #[derive(Clone, Copy)]
 pub struct Tally {
@@ -235,8 +221,10 @@ pub enum Call<K> {
 #[derive(Clone, Copy)]
 pub enum Reply {
     Opened(Result<u64, Refusal>),
-    Turned(Result<Turned, Refusal>),
-    Withdrew(Result<Withdrawn, Refusal>),
+    // Nothing while the call goes on, result and stamp when it finished.
+    Turned(Result<Option<Stamped>, Refusal>),
+    // Result and stamp if the call had settled, nothing if it is undone.
+    Withdrew(Result<Option<Stamped>, Refusal>),
     Counted(Tally),
 }
 

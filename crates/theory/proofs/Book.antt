@@ -14,8 +14,6 @@ use Rattle.rules.specs.declared.Reply.{Reply}
 use Rattle.rules.specs.declared.Reply.TheVariants.{Opened, Turned, Withdrew, Counted}
 use Rattle.rules.specs.declared.Seat.{Seat}
 use Rattle.rules.specs.declared.Stamped.{Stamped}
-use Rattle.rules.specs.declared.Turned.TheVariants.{Going, Finished}
-use Rattle.rules.specs.declared.Withdrawn.TheVariants.{Undone, Settled}
 use Rattle.theory.specs.Records.{Phased}
 
 -- The number that a reply gives to an opening.
@@ -29,11 +27,11 @@ opened_by (Counted c) = None
 -- The result and stamp with which a reply ends a call.
 abbrev pub ended_by : Reply → Option Stamped
 ended_by (Opened r) = None
-ended_by (Turned (Ok Going)) = None
-ended_by (Turned (Ok (Finished z))) = Some z
+ended_by (Turned (Ok None)) = None
+ended_by (Turned (Ok (Some z))) = Some z
 ended_by (Turned (Err e)) = None
-ended_by (Withdrew (Ok Undone)) = None
-ended_by (Withdrew (Ok (Settled z))) = Some z
+ended_by (Withdrew (Ok None)) = None
+ended_by (Withdrew (Ok (Some z))) = Some z
 ended_by (Withdrew (Err e)) = None
 ended_by (Counted c) = None
 
@@ -67,8 +65,8 @@ module _ {K : Type 0} where
 
   -- How a stamped call ended, or that it stands open in its seat's record.
   pub data Ending (h : History K) (t : ℕ) (x : Seat) (c : StampedCall K) : Type 0 where
-    finished : (e : ℕ) → TurnOf h t c.number e (Turned (Ok (Finished (record { outcome = c.result; stamp = c.stamp })))) → Ending h t x c
-    withdrew : (e : ℕ) → WithdrawalOf h t c.number e (Withdrew (Ok (Settled (record { outcome = c.result; stamp = c.stamp })))) → Ending h t x c
+    finished : (e : ℕ) → TurnOf h t c.number e (Turned (Ok (Some (record { outcome = c.result; stamp = c.stamp })))) → Ending h t x c
+    withdrew : (e : ℕ) → WithdrawalOf h t c.number e (Withdrew (Ok (Some (record { outcome = c.result; stamp = c.stamp })))) → Ending h t x c
     standing : is_idle x.phase ≡ false → x.number ≡ c.number → x.verdict.settled ≡ true → stamped_by x ≡ record { outcome = c.result; stamp = c.stamp } → Ending h t x c
 
   -- The life of a stamped call.

@@ -14,8 +14,8 @@ use Rattle.rules.specs.declared.Call.TheVariants.{Open, Turn, Withdraw, Count}
 use Rattle.rules.specs.declared.Plan.{Plan}
 use Rattle.rules.specs.declared.Reply.{Reply}
 use Rattle.rules.specs.declared.Reply.TheVariants.{Opened, Turned, Withdrew, Counted}
-use Rattle.rules.specs.declared.Withdrawn.{Withdrawn}
 use Rattle.theory.proofs.Sights.{Sees, sees}
+use Rattle.rules.specs.declared.Stamped.{Stamped}
 
 module _ {K : Type 0} (same : K → K → Bool) (hash : K → ℕ) (P : State K → Type 0) (s : State K) where
   -- What holds of the state and of each that a call can make of it.
@@ -45,7 +45,7 @@ module _ {K : Type 0} (same : K → K → Bool) (hash : K → ℕ) (P : State K 
     withdraw_by : (t : ℕ) → P (withdrawn s t).state
     withdraw_by t = by (no_seat s t) (is_idle (seat_of s t).phase)
       where
-        by : (u i : Bool) → (let left : Left K Withdrawn = cond u (refused_as s NoSuchSeat) (cond i (refused_as s SeatIdle) (record { state = seated s s.memory t idle_seat s.table.ticks; answer = Ok (withdrawal (seat_of s t)) })) in P left.state)
+        by : (u i : Bool) → (let left : Left K (Option Stamped) = cond u (refused_as s NoSuchSeat) (cond i (refused_as s SeatIdle) (record { state = seated s s.memory t idle_seat s.table.ticks; answer = Ok (withdrawal (seat_of s t)) })) in P left.state)
         by true i = kept.stays
         by false true = kept.stays
         by false false = kept.frees t

@@ -16,8 +16,7 @@ use Rattle.rules.specs.declared.Phase.TheVariants.{Idle, Read, Swap, Climb, Pare
 use Rattle.rules.specs.declared.Plan.{Plan}
 use Rattle.rules.specs.declared.Plan.TheVariants.{Refuse, Quit, Finish, Settle, Close, Go, Make}
 use Rattle.rules.specs.declared.Seat.{Seat}
-use Rattle.rules.specs.declared.Turned.{Turned}
-use Rattle.rules.specs.declared.Turned.TheVariants.{Going, Finished}
+use Rattle.rules.specs.declared.Stamped.{Stamped}
 use Rattle.rules.specs.declared.Verdict.{Verdict}
 use Rattle.theory.proofs.Plans.{Follows, plan_follows}
 use Rattle.theory.specs.Records.{Phased}
@@ -71,12 +70,12 @@ fits x phase p k (Follows.misses u) = same_verdict x _ refl refl refl tt
 
 -- What becomes of the call in a seat's record x at the tick n, with an answer and the result that is fixed: given up, fixed
 -- and ended, fixed and kept, ended with what was kept, or continued.
-pub data Act (x : Seat) (n : ℕ) : Result Turned Refusal → Option Outcome → Seat → Type 0 where
+pub data Act (x : Seat) (n : ℕ) : Result (Option Stamped) Refusal → Option Outcome → Seat → Type 0 where
   quits : (e : Refusal) → x.verdict.settled ≡ false → Act x n (Err e) None idle_seat
-  finishes : (r : Outcome) → x.verdict.settled ≡ false → Act x n (Ok (Finished (record { outcome = r; stamp = n }))) (Some r) idle_seat
-  settles : (r : Outcome) → x.verdict.settled ≡ false → Act x n (Ok Going) (Some r) (settled_seat x r n)
-  closes : x.verdict.settled ≡ true → Act x n (Ok (Finished (stamped_by x))) None idle_seat
-  goes : (y : Seat) → Onward x y → Act x n (Ok Going) None y
+  finishes : (r : Outcome) → x.verdict.settled ≡ false → Act x n (Ok (Some (record { outcome = r; stamp = n }))) (Some r) idle_seat
+  settles : (r : Outcome) → x.verdict.settled ≡ false → Act x n (Ok None) (Some r) (settled_seat x r n)
+  closes : x.verdict.settled ≡ true → Act x n (Ok (Some (stamped_by x))) None idle_seat
+  goes : (y : Seat) → Onward x y → Act x n (Ok None) None y
 
 -- What a turn did: it was refused and nothing altered, or it counted a tick and left the seat in another record.
 pub data Deed {K : Type 0} (s : State K) (t : ℕ) (out : Out K) : Type 0 where

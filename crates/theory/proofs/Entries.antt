@@ -16,10 +16,6 @@ use Rattle.rules.specs.declared.Outcome.{Outcome}
 use Rattle.rules.specs.declared.Reply.TheVariants.{Opened, Turned, Withdrew}
 use Rattle.rules.specs.declared.Seat.{Seat}
 use Rattle.rules.specs.declared.Stamped.{Stamped}
-use Rattle.rules.specs.declared.Turned.{Turned as Answered}
-use Rattle.rules.specs.declared.Turned.TheVariants.{Going, Finished}
-use Rattle.rules.specs.declared.Withdrawn.{Withdrawn}
-use Rattle.rules.specs.declared.Withdrawn.TheVariants.{Undone, Settled}
 use Rattle.theory.proofs.Book.{Book, Recorded, Sitting, Ending, Life, Shift, Entered, opened_by, ended_by, seat_in, recorded_on, ending_on, entered}
 use Rattle.theory.proofs.Deeds.{phased_open, Onward, Act}
 use Rattle.theory.specs.Records.{Phased}
@@ -157,7 +153,7 @@ module _ {K : Type 0} where
           result = r;
         }
 
-    module _ (r : Outcome) (u : (seat_of s t).verdict.settled ≡ false) (a : Result Answered Refusal) (y : Seat) where
+    module _ (r : Outcome) (u : (seat_of s t).verdict.settled ≡ false) (a : Result (Option Stamped) Refusal) (y : Seat) where
       abbrev event : Event K
       event = record { call = Turn t; reply = Turned a; number = (seat_of s t).number; ticks = suc s.table.ticks }
 
@@ -176,7 +172,7 @@ module _ {K : Type 0} where
           }
 
       -- One result is fixed.
-      fixes : (Turned a ≡ Turned (Ok Going)) ⊎ (Turned a ≡ Turned (Ok (Finished verdict)))
+      fixes : (Turned a ≡ Turned (Ok None)) ⊎ (Turned a ≡ Turned (Ok (Some verdict)))
           → ((z : Stamped) → ended_by (Turned a) ≡ Some z → z ≡ verdict)
           → (is_idle y.phase ≡ false → Sitting (event ∷ h) (fixed_call r ∷ calls) m.keys (suc s.table.ticks) t y)
           → Ending (event ∷ h) t y (fixed_call r) → Book (event ∷ h) (seated s m t y (suc s.table.ticks)) (fixed_call r ∷ calls)
@@ -216,10 +212,10 @@ module _ {K : Type 0} where
           new c (Memᴰ.tail i) = inl i
 
     -- The same event, for a call that stands, as its finish.
-    abbrev turn_event : Result Answered Refusal → Event K
+    abbrev turn_event : Result (Option Stamped) Refusal → Event K
     turn_event a = record { call = Turn t; reply = Turned a; number = (seat_of s t).number; ticks = suc s.table.ticks }
 
-    close_hands : (c : StampedCall K) → Ending h t (seat_of s t) c → Ending (turn_event (Ok (Finished (stamped_by (seat_of s t)))) ∷ h) t idle_seat c
+    close_hands : (c : StampedCall K) → Ending h t (seat_of s t) c → Ending (turn_event (Ok (Some (stamped_by (seat_of s t)))) ∷ h) t idle_seat c
     close_hands c (Ending.finished e i) = Ending.finished e (Memᴰ.tail i)
     close_hands c (Ending.withdrew e i) = Ending.withdrew e (Memᴰ.tail i)
     close_hands c (Ending.standing i k w q) = Ending.finished (suc s.table.ticks) (Memᴰ.head (rw (sym k, sym q) refl))
@@ -241,7 +237,7 @@ module _ {K : Type 0} where
     abbrev same_place : slice_get m.keys t ≡ slice_get s.memory.keys t
     same_place = ap (λ k. slice_get k t) same_keys
 
-    pub act_entered : (a : Result Answered Refusal) (f : Option Outcome) (y : Seat) → Act (seat_of s t) (suc s.table.ticks) a f y → Next h calls (turn_event a) s (seated s m t y (suc s.table.ticks)) t f
+    pub act_entered : (a : Result (Option Stamped) Refusal) (f : Option Outcome) (y : Seat) → Act (seat_of s t) (suc s.table.ticks) a f y → Next h calls (turn_event a) s (seated s m t y (suc s.table.ticks)) t f
     act_entered a f y (Act.quits e u) =
         not_fixed (passed (turn_event (Err e)) idle_seat (suc s.table.ticks) (omega arith) refl (λ z e. none_some e) (λ i. absurd (true≢false i)) (not_standing u (turn_event (Err e)) idle_seat))
     act_entered a f y (Act.finishes r u) =
@@ -259,7 +255,7 @@ module _ {K : Type 0} where
           grown = Grown.longer (b.seats t o).key (b.seats t o).at r (b.seats t o).stored;
         }
       where
-        sits : Sitting (turn_event (Ok Going) ∷ h) (fixed_call r ∷ calls) m.keys (suc s.table.ticks) t (settled_seat (seat_of s t) r (suc s.table.ticks))
+        sits : Sitting (turn_event (Ok None) ∷ h) (fixed_call r ∷ calls) m.keys (suc s.table.ticks) t (settled_seat (seat_of s t) r (suc s.table.ticks))
         sits =
             let x = b.seats t o in
             record {
@@ -269,7 +265,7 @@ module _ {K : Type 0} where
               stored = same_place ∙ x.stored;
               since = let l = x.since in omega (arith, l);
               fresh = λ w. absurd (true≢false w);
-              settled = λ w. fixed_recorded r u (Ok Going) (seat_of s t);
+              settled = λ w. fixed_recorded r u (Ok None) (seat_of s t);
               phased = refl;
             }
     act_entered a f y (Act.closes u) =
@@ -285,10 +281,10 @@ module _ {K : Type 0} where
   -- THE WITHDRAWAL OF AN OPEN CALL
 
   module _ {h : History K} {s : State K} {calls : List (StampedCall K)} (b : Book h s calls) (t : ℕ) (o : is_idle (seat_of s t).phase ≡ false) where
-    abbrev withdrawal_of : Withdrawn → Event K
+    abbrev withdrawal_of : Option Stamped → Event K
     withdrawal_of w = record { call = Withdraw t; reply = Withdrew (Ok w); number = (seat_of s t).number; ticks = s.table.ticks }
 
-    withdraw_hands : (c : StampedCall K) → Ending h t (seat_of s t) c → Ending (withdrawal_of (Settled (stamped_by (seat_of s t))) ∷ h) t idle_seat c
+    withdraw_hands : (c : StampedCall K) → Ending h t (seat_of s t) c → Ending (withdrawal_of (Some (stamped_by (seat_of s t))) ∷ h) t idle_seat c
     withdraw_hands c (Ending.finished e i) = Ending.finished e (Memᴰ.tail i)
     withdraw_hands c (Ending.withdrew e i) = Ending.withdrew e (Memᴰ.tail i)
     withdraw_hands c (Ending.standing i k w q) = Ending.withdrew s.table.ticks (Memᴰ.head (rw (sym k, sym q) refl))
@@ -296,7 +292,7 @@ module _ {K : Type 0} where
     pub withdrawal_entered : Book (withdrawal_of (withdrawal (seat_of s t)) ∷ h) (seated s s.memory t idle_seat s.table.ticks) calls
     withdrawal_entered = by (seat_of s t).verdict.settled refl
       where
-        by : (u : Bool) → (seat_of s t).verdict.settled ≡ u → Book (withdrawal_of (cond u (Settled (stamped_by (seat_of s t))) Undone) ∷ h) (seated s s.memory t idle_seat s.table.ticks) calls
+        by : (u : Bool) → (seat_of s t).verdict.settled ≡ u → Book (withdrawal_of (cond u (Some (stamped_by (seat_of s t))) None) ∷ h) (seated s s.memory t idle_seat s.table.ticks) calls
         by true u =
             passed b t o s.memory refl _ idle_seat s.table.ticks (omega arith) refl
             (λ z e. settled_recorded b t o s.memory refl _ u z cc) (λ i. absurd (true≢false i)) withdraw_hands

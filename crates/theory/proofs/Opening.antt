@@ -1,5 +1,5 @@
 -- Openings and withdrawals: on the state shown they are steps of the machine, and they promise nothing.
-use Rattle.std.proofs.Common.{◌≡◌, ℕ, suc, ◌<◌, Bool, true, false, cond, not, leb, List, [], ◌∷◌, length, set, Ok, Err, Result, sym, refl, ap, subst, arith}
+use Rattle.std.proofs.Common.{◌≡◌, ℕ, suc, ◌<◌, Bool, true, false, cond, not, leb, List, [], ◌∷◌, length, set, Ok, Err, Option, Result, sym, refl, ap, subst, arith}
 use Rattle.keys.specs.Routes.{chunk_at}
 use Rattle.std.proofs.lemmas.Bool.{and_parts, or_parts, leb-true, leb-false, false≢true}
 use Rattle.panel.specs.declared.Refusal.{Refusal}
@@ -16,7 +16,6 @@ use Rattle.rules.specs.declared.Ask.{Ask}
 use Rattle.rules.specs.declared.Figures.{Figures}
 use Rattle.rules.specs.declared.Limits.{Limits}
 use Rattle.rules.specs.declared.Seat.{Seat}
-use Rattle.rules.specs.declared.Withdrawn.{Withdrawn}
 use Rattle.theory.proofs.Entries.{set_here, set_there}
 use Rattle.theory.proofs.Ground.{Within}
 use Rattle.theory.proofs.Promises.{cells_by, pairs_by, cells_set, pairs_set}
@@ -25,6 +24,7 @@ use Rattle.theory.proofs.Turning.{Moved, stays, reshown, asked_plain}
 use Rattle.theory.specs.Fed.{asked}
 use Rattle.theory.specs.Records.{Steady}
 use Rattle.theory.specs.Shown.{shown_mem}
+use Rattle.rules.specs.declared.Stamped.{Stamped}
 
 module _ {K : Type 0} (same : K → K → Bool) (hash : K → ℕ) where
   -- The keys count for nothing.
@@ -118,7 +118,7 @@ module _ {K : Type 0} (same : K → K → Bool) (hash : K → ℕ) where
     pub withdraw_within : {s : State K} → Steady f s → Within same hash s → (t : ℕ) → Within same hash (withdrawn s t).state
     withdraw_within {s} w v t = by (no_seat s t) refl (is_idle (seat_of s t).phase)
       where
-        by : (u : Bool) → no_seat s t ≡ u → (i : Bool) → (let left : Left K Withdrawn = cond u (refused_as s NoSuchSeat) (cond i (refused_as s SeatIdle) (record { state = seated s s.memory t idle_seat s.table.ticks; answer = Ok (withdrawal (seat_of s t)) })) in Within same hash left.state)
+        by : (u : Bool) → no_seat s t ≡ u → (i : Bool) → (let left : Left K (Option Stamped) = cond u (refused_as s NoSuchSeat) (cond i (refused_as s SeatIdle) (record { state = seated s s.memory t idle_seat s.table.ticks; answer = Ok (withdrawal (seat_of s t)) })) in Within same hash left.state)
         by true u i = v
         by false u true = v
         by false u false = reseated_within v (seated s s.memory t idle_seat s.table.ticks) t idle_seat (seat_in_lem w t u) refl refl refl refl refl refl

@@ -19,9 +19,6 @@ use Rattle.rules.specs.declared.Reply.{Reply}
 use Rattle.rules.specs.declared.Reply.TheVariants.{Opened, Turned, Withdrew, Counted}
 use Rattle.rules.specs.declared.Seat.{Seat}
 use Rattle.rules.specs.declared.Stamped.{Stamped}
-use Rattle.rules.specs.declared.Turned.TheVariants.{Finished}
-use Rattle.rules.specs.declared.Withdrawn.{Withdrawn}
-use Rattle.rules.specs.declared.Withdrawn.TheVariants.{Undone, Settled}
 use Rattle.theory.proofs.Book.{Book, Recorded, Ending, opened_by, ended_by, seat_in}
 use Rattle.theory.proofs.Deeds.{Deed, turn_deed}
 use Rattle.theory.proofs.Entries.{Next, not_fixed, heard, act_entered, withdrawal_entered, opening_entered}
@@ -78,7 +75,7 @@ module _ {K : Type 0} where
     withdraw_next : (t : ℕ) → Next h calls (record { call = Withdraw t; reply = Withdrew (withdrawn s t).answer; number = (seat_of s t).number; ticks = (withdrawn s t).state.table.ticks }) s (withdrawn s t).state t None
     withdraw_next t = by (no_seat s t) (is_idle (seat_of s t).phase) refl
       where
-        by : (u i : Bool) → is_idle (seat_of s t).phase ≡ i → (let left : Left K Withdrawn = cond u (refused_as s NoSuchSeat) (cond i (refused_as s SeatIdle) (record { state = seated s s.memory t idle_seat s.table.ticks; answer = Ok (withdrawal (seat_of s t)) })) in Next h calls (record { call = Withdraw t; reply = Withdrew left.answer; number = (seat_of s t).number; ticks = left.state.table.ticks }) s left.state t None)
+        by : (u i : Bool) → is_idle (seat_of s t).phase ≡ i → (let left : Left K (Option Stamped) = cond u (refused_as s NoSuchSeat) (cond i (refused_as s SeatIdle) (record { state = seated s s.memory t idle_seat s.table.ticks; answer = Ok (withdrawal (seat_of s t)) })) in Next h calls (record { call = Withdraw t; reply = Withdrew left.answer; number = (seat_of s t).number; ticks = left.state.table.ticks }) s left.state t None)
         by true i o = unaltered _ t refl refl
         by false true o = unaltered _ t refl refl
         by false false o = not_fixed (withdrawal_entered b t o)
@@ -132,16 +129,16 @@ module _ {K : Type 0} where
   by_number (a ∷ calls) c d o (Memᴰ.tail i) (Memᴰ.tail j) e = by_number calls c d o.1 i j e
 
   -- What a withdrawal would tell of a settled call, and only of one.
-  tells_settled : (s : State K) (t : ℕ) (z : Stamped) → (withdrawn s t).answer ≡ Ok (Settled z) → (is_idle (seat_of s t).phase ≡ false) × ((seat_of s t).verdict.settled ≡ true) × (stamped_by (seat_of s t) ≡ z)
+  tells_settled : (s : State K) (t : ℕ) (z : Stamped) → (withdrawn s t).answer ≡ Ok (Some z) → (is_idle (seat_of s t).phase ≡ false) × ((seat_of s t).verdict.settled ≡ true) × (stamped_by (seat_of s t) ≡ z)
   tells_settled s t z e = by (no_seat s t) (is_idle (seat_of s t).phase) refl (seat_of s t).verdict.settled refl e
     where
-      by : (u i : Bool) → is_idle (seat_of s t).phase ≡ i → (k : Bool) → (seat_of s t).verdict.settled ≡ k → (let left : Left K Withdrawn = cond u (refused_as s NoSuchSeat) (cond i (refused_as s SeatIdle) (record { state = seated s s.memory t idle_seat s.table.ticks; answer = Ok (cond k (Settled (stamped_by (seat_of s t))) Undone) })) in left.answer ≡ Ok (Settled z)) → (is_idle (seat_of s t).phase ≡ false) × ((seat_of s t).verdict.settled ≡ true) × (stamped_by (seat_of s t) ≡ z)
+      by : (u i : Bool) → is_idle (seat_of s t).phase ≡ i → (k : Bool) → (seat_of s t).verdict.settled ≡ k → (let left : Left K (Option Stamped) = cond u (refused_as s NoSuchSeat) (cond i (refused_as s SeatIdle) (record { state = seated s s.memory t idle_seat s.table.ticks; answer = Ok (cond k (Some (stamped_by (seat_of s t))) None) })) in left.answer ≡ Ok (Some z)) → (is_idle (seat_of s t).phase ≡ false) × ((seat_of s t).verdict.settled ≡ true) × (stamped_by (seat_of s t) ≡ z)
       by true i o k w e = let z : ◌≡◌ {A = ℕ} 0 1 = cc in absurd (omega arith)
       by false true o k w e = let z : ◌≡◌ {A = ℕ} 0 1 = cc in absurd (omega arith)
       by false false o false w e = let z : ◌≡◌ {A = ℕ} 0 1 = cc in absurd (omega arith)
       by false false o true w e = (o, w, cc)
 
-  settled_tells : (s : State K) (t : ℕ) → no_seat s t ≡ false → is_idle (seat_of s t).phase ≡ false → (seat_of s t).verdict.settled ≡ true → (withdrawn s t).answer ≡ Ok (Settled (stamped_by (seat_of s t)))
+  settled_tells : (s : State K) (t : ℕ) → no_seat s t ≡ false → is_idle (seat_of s t).phase ≡ false → (seat_of s t).verdict.settled ≡ true → (withdrawn s t).answer ≡ Ok (Some (stamped_by (seat_of s t)))
   settled_tells s t u i k = rw (u, i, k) refl
 
   module _ {h : History K} {s : State K} {calls : List (StampedCall K)} (b : Book h s calls) where
@@ -177,7 +174,7 @@ module _ {K : Type 0} where
         ending : (t : ℕ) → Ending h t (seat_of s t) c → Ends h s t c
         ending t (Ending.finished e j) = Ends.finished e j
         ending t (Ending.withdrew e j) = Ends.withdrew e j
-        ending t (Ending.standing o n k q) = Ends.standing n (settled_tells s t (b.inside t o) o k ∙ ap (λ z. Ok (Settled z)) q)
+        ending t (Ending.standing o n k q) = Ends.standing n (settled_tells s t (b.inside t o) o k ∙ ap (λ z. Ok (Some z)) q)
 
     -- The end of a call tells what the book has of it.
     told : (c : StampedCall K) → Memᴰ c calls → (t : ℕ) (z : Stamped) (e : ℕ) → Recorded h calls t c.number z × (z.stamp ≤ e) → (z.outcome ≡ c.result) × (z.stamp ≡ c.stamp) × (c.stamp ≤ e)
@@ -200,7 +197,7 @@ module _ {K : Type 0} where
           before_now = λ c i. (b.each c i).now;
         }
       where
-        ends_told : (c : StampedCall K) → Memᴰ c calls → (t e : ℕ) (r : Outcome) (n : ℕ) → TurnOf h t c.number e (Turned (Ok (Finished (record { outcome = r; stamp = n })))) ⊎ WithdrawalOf h t c.number e (Withdrew (Ok (Settled (record { outcome = r; stamp = n })))) → (r ≡ c.result) × (n ≡ c.stamp) × (c.stamp ≤ e)
+        ends_told : (c : StampedCall K) → Memᴰ c calls → (t e : ℕ) (r : Outcome) (n : ℕ) → TurnOf h t c.number e (Turned (Ok (Some (record { outcome = r; stamp = n })))) ⊎ WithdrawalOf h t c.number e (Withdrew (Ok (Some (record { outcome = r; stamp = n })))) → (r ≡ c.result) × (n ≡ c.stamp) × (c.stamp ≤ e)
         ends_told c i t e r n (inl j) = told c i t _ e (b.ended _ _ j refl)
         ends_told c i t e r n (inr j) = told c i t _ e (b.ended _ _ j refl)
 

@@ -1,5 +1,5 @@
 -- Every history of a table runs the machine, stays within its limits and never lacks memory.
-use Rattle.std.proofs.Common.{◌≡◌, ℕ, Bool, false, List, [], ◌∷◌, Err, Result, sym, ap, ◌∙◌, subst, arith}
+use Rattle.std.proofs.Common.{◌≡◌, ℕ, Bool, false, List, [], ◌∷◌, Err, Option, Result, sym, ap, ◌∙◌, subst, arith}
 use mathlib.Core.List.{Memᴰ}
 use Rattle.keys.specs.Laws.{KeyLaws}
 use Rattle.panel.specs.declared.Refusal.{Refusal}
@@ -18,9 +18,8 @@ use Rattle.rules.specs.declared.Call.TheVariants.{Open, Turn, Withdraw, Count}
 use Rattle.rules.specs.declared.Figures.{Figures}
 use Rattle.rules.specs.declared.Reply.{Reply}
 use Rattle.rules.specs.declared.Reply.TheVariants.{Opened, Turned, Withdrew, Counted}
+use Rattle.rules.specs.declared.Stamped.{Stamped}
 use Rattle.rules.specs.declared.Tally.{Tally}
-use Rattle.rules.specs.declared.Turned.{Turned as Answered}
-use Rattle.rules.specs.declared.Withdrawn.{Withdrawn}
 use Rattle.theory.proofs.Book.{Book, seat_in}
 use Rattle.theory.proofs.Entries.{Grown, as_before}
 use Rattle.theory.proofs.Ground.{Ground, Within}
@@ -44,22 +43,22 @@ use Rattle.theory.specs.Records.{Steady}
 same_opened : {a b : Result ℕ Refusal} → Opened a ≡ Opened b → a ≡ b
 same_opened e = cc
 
-same_turned : {a b : Result Answered Refusal} → Turned a ≡ Turned b → a ≡ b
+same_turned : {a b : Result (Option Stamped) Refusal} → Turned a ≡ Turned b → a ≡ b
 same_turned e = cc
 
-opened_turned : {a : Result ℕ Refusal} {b : Result Answered Refusal} → Opened a ≡ Turned b → ⊥
+opened_turned : {a : Result ℕ Refusal} {b : Result (Option Stamped) Refusal} → Opened a ≡ Turned b → ⊥
 opened_turned e = let z : ◌≡◌ {A = ℕ} 0 1 = cc in omega arith
 
-withdrew_opened : {a : Result Withdrawn Refusal} {b : Result ℕ Refusal} → Withdrew a ≡ Opened b → ⊥
+withdrew_opened : {a : Result (Option Stamped) Refusal} {b : Result ℕ Refusal} → Withdrew a ≡ Opened b → ⊥
 withdrew_opened e = let z : ◌≡◌ {A = ℕ} 0 1 = cc in omega arith
 
-withdrew_turned : {a : Result Withdrawn Refusal} {b : Result Answered Refusal} → Withdrew a ≡ Turned b → ⊥
+withdrew_turned : {a b : Result (Option Stamped) Refusal} → Withdrew a ≡ Turned b → ⊥
 withdrew_turned e = let z : ◌≡◌ {A = ℕ} 0 1 = cc in omega arith
 
 counted_opened : {a : Tally} {b : Result ℕ Refusal} → Counted a ≡ Opened b → ⊥
 counted_opened e = let z : ◌≡◌ {A = ℕ} 0 1 = cc in omega arith
 
-counted_turned : {a : Tally} {b : Result Answered Refusal} → Counted a ≡ Turned b → ⊥
+counted_turned : {a : Tally} {b : Result (Option Stamped) Refusal} → Counted a ≡ Turned b → ⊥
 counted_turned e = let z : ◌≡◌ {A = ℕ} 0 1 = cc in omega arith
 
 module _ {K : Type 0} (same : K → K → Bool) (hash : K → ℕ) where
@@ -118,9 +117,9 @@ module _ {K : Type 0} (same : K → K → Bool) (hash : K → ℕ) where
         subst (Within same hash) (sym e) (open_within same hash w.steady w.within t ask key),
       )
 
-      withdraw_on : (t : ℕ) (r : Result Withdrawn Refusal) (z : State K) → r ≡ (withdrawn s t).answer → z ≡ (withdrawn s t).state → Written z → ((p : ℕ) → is_idle (seat_of z p).phase ≡ false → Poised (seat_of z p)) → Onward (event (Withdraw t) (Withdrew r) z) z
+      withdraw_on : (t : ℕ) (r : Result (Option Stamped) Refusal) (z : State K) → r ≡ (withdrawn s t).answer → z ≡ (withdrawn s t).state → Written z → ((p : ℕ) → is_idle (seat_of z p).phase ≡ false → Poised (seat_of z p)) → Onward (event (Withdraw t) (Withdrew r) z) z
       withdraw_on t r z p e a b = (
-        subst (λ (u : Result Withdrawn Refusal). Image same hash (event (Withdraw t) (Withdrew u) z ∷ h) w.calls z) (sym p)
+        subst (λ (u : Result (Option Stamped) Refusal). Image same hash (event (Withdraw t) (Withdrew u) z ∷ h) w.calls z) (sym p)
             (subst (λ (u : State K). Image same hash (event (Withdraw t) (Withdrew (withdrawn s t).answer) u ∷ h) w.calls u) (sym e)
             (withdraw_image same hash laws w.steady w.image t (subst Written e a) (subst (λ (u : State K). (p : ℕ) → is_idle (seat_of u p).phase ≡ false → Poised (seat_of u p)) e b))),
         subst (Within same hash) (sym e) (withdraw_within same hash w.steady w.within t),

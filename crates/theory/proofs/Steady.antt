@@ -28,11 +28,11 @@ use Rattle.rules.specs.declared.Reply.{Reply}
 use Rattle.rules.specs.declared.Reply.TheVariants.{Opened, Turned, Withdrew, Counted}
 use Rattle.rules.specs.declared.Seat.{Seat}
 use Rattle.rules.specs.declared.Seen.TheVariants.{Swapped}
-use Rattle.rules.specs.declared.Withdrawn.{Withdrawn}
 use Rattle.rules.proofs.Freshness.{accepted}
 use Rattle.theory.proofs.Order.{all_idle}
 use Rattle.theory.proofs.Plans.{Follows, plan_follows}
 use Rattle.theory.specs.Records.{Phased, is_up, Kept, Steady, SteadyTheorem}
+use Rattle.rules.specs.declared.Stamped.{Stamped}
 
 -- RECORDS
 
@@ -243,7 +243,7 @@ module _ {K : Type 0} where
     withdraw_steady : Steady f (withdrawn s t).state
     withdraw_steady = by (no_seat s t) (is_idle (seat_of s t).phase) refl
       where
-        by : (u i : Bool) → is_idle (seat_of s t).phase ≡ i → (let left : Left K Withdrawn = cond u (refused_as s NoSuchSeat) (cond i (refused_as s SeatIdle) (record { state = seated s s.memory t idle_seat s.table.ticks; answer = Ok (withdrawal (seat_of s t)) })) in Steady f left.state)
+        by : (u i : Bool) → is_idle (seat_of s t).phase ≡ i → (let left : Left K (Option Stamped) = cond u (refused_as s NoSuchSeat) (cond i (refused_as s SeatIdle) (record { state = seated s s.memory t idle_seat s.table.ticks; answer = Ok (withdrawal (seat_of s t)) })) in Steady f left.state)
         by true i o = w
         by false true o = w
         by false false o = reseated w t (w.calls t o).0 s.memory (same_size s.memory) idle_seat LeftAs.freed s.table.ticks w.ticks

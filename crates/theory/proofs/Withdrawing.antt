@@ -1,5 +1,5 @@
 -- A withdrawal frees the seat of the machine and puts its flag up.
-use Rattle.std.proofs.Common.{◌≡◌, ℕ, Bool, true, false, cond, List, ◌∷◌, set, Some, Ok, refl}
+use Rattle.std.proofs.Common.{◌≡◌, ℕ, Bool, true, false, cond, List, ◌∷◌, set, Some, Ok, Option, refl}
 use mathlib.Core.List.Memᴰ
 use Rattle.keys.specs.Laws.{KeyLaws}
 use Rattle.std.specs.List.{slice_get}
@@ -16,13 +16,13 @@ use Rattle.rules.specs.Theorem.{StampedCall}
 use Rattle.rules.specs.declared.Call.TheVariants.{Withdraw}
 use Rattle.rules.specs.declared.Figures.{Figures}
 use Rattle.rules.specs.declared.Reply.TheVariants.{Withdrew}
-use Rattle.rules.specs.declared.Withdrawn.{Withdrawn}
 use Rattle.theory.proofs.Turning.{reshown}
 use Rattle.theory.proofs.Using.{key_of}
 use Rattle.theory.proofs.Writing.{Written, Poised}
 use Rattle.theory.specs.Records.{Steady}
 use Rattle.theory.proofs.Imaging.{Image, ground}
 use Rattle.theory.proofs.Opening.{seat_in_lem, shown_in}
+use Rattle.rules.specs.declared.Stamped.{Stamped}
 
 module _ {K : Type 0} (same : K → K → Bool) (hash : K → ℕ) where
   -- An event that alters nothing and withdraws nothing.
@@ -46,7 +46,7 @@ module _ {K : Type 0} (same : K → K → Bool) (hash : K → ℕ) where
     withdraw_image {h} {s} {calls} w m t = by (no_seat s t) refl (is_idle (seat_of s t).phase) refl
       where
         by : (u : Bool) → no_seat s t ≡ u → (i : Bool) → is_idle (seat_of s t).phase ≡ i
-            → (let left : Left K Withdrawn = cond u (refused_as s NoSuchSeat) (cond i (refused_as s SeatIdle) (record { state = seated s s.memory t idle_seat s.table.ticks; answer = Ok (withdrawal (seat_of s t)) })) in
+            → (let left : Left K (Option Stamped) = cond u (refused_as s NoSuchSeat) (cond i (refused_as s SeatIdle) (record { state = seated s s.memory t idle_seat s.table.ticks; answer = Ok (withdrawal (seat_of s t)) })) in
             Written left.state → ((p : ℕ) → is_idle (seat_of left.state p).phase ≡ false → Poised (seat_of left.state p))
             → Image same hash (record { call = Withdraw t; reply = Withdrew left.answer; number = (seat_of s t).number; ticks = left.state.table.ticks } ∷ h) calls left.state)
         by true u i o a b = still m a b

@@ -14,7 +14,7 @@ use Rattle.mains.specs.declared.Node.{Node}
 use Rattle.mains.specs.declared.PairList.{PairList}
 use Rattle.rules.specs.Memory.{Memory}
 use Rattle.rules.specs.Sanity.{Fault, unsuited, unsound, missing}
-use Rattle.rules.specs.Seats.{is_idle, is_cut}
+use Rattle.rules.specs.Seats.{is_idle, is_settled, is_cut}
 use Rattle.rules.specs.Sound.{sound, pairs_at, all_alike}
 use Rattle.rules.specs.Turns.{at_nothing, at_equal, at_other, not_listed, listed_at, place_of, at_place, climbed, gives_up, climbs, at_parent, after_swap, after_clean, at_pair, at_branch, at_list, read_plan, parent_plan, decide}
 use Rattle.rules.specs.declared.Ask.{Ask}
@@ -78,7 +78,7 @@ module _ (P : Plan → Type 0) (k : Kinds P) where
   by_climbed x = by_test (leb x.path.depth 1) _ _ k.close (k.go _)
 
   by_up : (x : Seat) → P (gives_up x)
-  by_up x = by_test x.verdict.settled _ _ (by_climbed x) (k.go _)
+  by_up x = by_test (is_settled x) _ _ (by_climbed x) (k.go _)
 
   by_climbs : (y : Main) (x : Seat) → P (climbs y x)
   by_climbs (node y) x = by_climbed x
@@ -96,7 +96,7 @@ module _ (P : Plan → Type 0) (k : Kinds P) where
 
   by_clean : (b : Bool) (x : Seat) → P (after_clean b x)
   by_clean true x = by_up x
-  by_clean false x = by_test x.verdict.settled _ _ (k.go _) (k.go _)
+  by_clean false x = by_test (is_settled x) _ _ (k.go _) (k.go _)
 
   module _ {K : Type 0} (same : K → K → Bool) (hash : K → ℕ) where
     by_pair : (o : Option (Pair K)) → (o ≡ None → P (Refuse MemoryUnfit)) → (x : Seat) (key : K) (n : ℕ) (y : Node) (q i p : ℕ) → P (at_pair same hash o x key n y q i p)

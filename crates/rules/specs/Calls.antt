@@ -7,7 +7,7 @@ use Rattle.mains.specs.declared.Main.TheVariants.{Node as node}
 use Rattle.rules.specs.Memory.{Memory, State, last_count}
 use Rattle.rules.specs.Perform.{seated}
 use Rattle.rules.specs.Reached.{cell_count, pair_count, tomb_count}
-use Rattle.rules.specs.Seats.{seat_of, no_seat, idle_seat, opened_seat, is_idle, stamped_by}
+use Rattle.rules.specs.Seats.{seat_of, no_seat, idle_seat, opened_seat, is_idle, is_settled, stamped_by}
 use Rattle.rules.specs.declared.Ask.{Ask}
 use Rattle.rules.specs.declared.Figures.{Figures}
 use Rattle.rules.specs.declared.Seat.{Seat}
@@ -111,7 +111,7 @@ opened s t ask key =
 
 -- What a withdrawal of an open call answers.
 abbrev pub withdrawal : Seat → Option Stamped
-withdrawal x = cond x.verdict.settled (Some (stamped_by x)) None
+withdrawal x = cond (is_settled x) (Some (stamped_by x)) None
 
 -- No such seat, no open call; else the seat is freed, and no tick counts.
 abbrev pub withdrawn : {K : Type 0} → State K → ℕ → Left K (Option Stamped)

@@ -8,7 +8,7 @@ use Rattle.rules.specs.Edits.{edited, makes_pair, adds_pair, links_of, Link, cha
 use Rattle.rules.specs.InUse.{CellInUse, MainInUse, PairInUse}
 use Rattle.rules.specs.Memory.{Memory, State, main_limit}
 use Rattle.rules.specs.Reached.{Once, cell_count, pair_count}
-use Rattle.rules.specs.Seats.{seat_of, idle_seat, hoping, prepared, settled_seat, chain_of}
+use Rattle.rules.specs.Seats.{seat_of, idle_seat, hoping, prepared, settled_seat, stamped_by, chain_of}
 use Rattle.rules.specs.Turns.{planned}
 use Rattle.rules.specs.declared.Ask.{Ask}
 use Rattle.rules.specs.declared.Ask.TheVariants.{Get, Put, Cut}
@@ -172,11 +172,11 @@ module _ {K : Type 0} (s : State K) (t : ℕ) where
   quitted e = record { state = seated s s.memory t idle_seat (suc s.table.ticks); answer = Err e; fixed = None }
 
   -- The call finishes with a result and its stamp; what this turn fixed.
-  abbrev pub finished : List ℕ → Outcome → ℕ → Option Outcome → Out K
-  finished words r stamp fixed =
+  abbrev pub finished : List ℕ → Stamped → Option Outcome → Out K
+  finished words verdict fixed =
       record {
         state = seated s (worded s.memory words) t idle_seat (suc s.table.ticks);
-        answer = Ok (Some (record { outcome = r; stamp = stamp }));
+        answer = Ok (Some verdict);
         fixed = fixed;
       }
 
@@ -189,11 +189,10 @@ module _ {K : Type 0} (same : K → K → Bool) (hash : K → ℕ) where
   abbrev pub performed : State K → ℕ → List ℕ → Plan → Picks → Out K
   performed s t words (Refuse e) picks = refused s t e
   performed s t words (Quit e) picks = quitted s t e
-  performed s t words (Finish r) picks = finished s t words r (suc s.table.ticks) (Some r)
+  performed s t words (Finish r) picks = finished s t words (record { outcome = r; stamp = suc s.table.ticks }) (Some r)
   performed s t words (Settle r) picks =
       going s t (worded s.memory words) (settled_seat (seat_of s t) r (suc s.table.ticks)) (Some r)
-  performed s t words Close picks =
-      finished s t words (seat_of s t).verdict.outcome (seat_of s t).verdict.stamp None
+  performed s t words Close picks = finished s t words (stamped_by (seat_of s t)) None
   performed s t words (Go x) picks = going s t (worded s.memory words) x None
   performed s t words (Make edit phase n r) picks =
       cond (enough edit picks)

@@ -1,5 +1,5 @@
 -- The records of seats, and how they go on.
-use Rattle.std.specs.Prelude.{ℕ, ◌+◌, ◌-◌, Bool, true, false, cond, ◌||◌, List, ◌++◌, length, take, replicate, None, Option, ◌==◌, nat_le, slice_index_or, slice_set}
+use Rattle.std.specs.Prelude.{ℕ, ◌+◌, ◌-◌, Bool, true, false, cond, ◌||◌, List, ◌++◌, length, take, replicate, Some, None, Option, is_some, unwrap_or, ◌==◌, nat_le, slice_index_or, slice_set}
 use Rattle.std.specs.List.{slice_get}
 use Rattle.rules.specs.Memory.{State}
 use Rattle.rules.specs.declared.Ask.{Ask}
@@ -29,7 +29,7 @@ none_made = record { expected = 0; made = 0; pair = 0; chain = replicate 7 no_ce
 
 -- Nothing has come out yet.
 abbrev pub open_verdict : Verdict
-open_verdict = record { outcome = Absent; settled = false; stamp = 0 }
+open_verdict = record { outcome = Absent; stamp = None }
 
 -- The record of a seat without a call.
 abbrev pub idle_seat : Seat
@@ -89,7 +89,7 @@ hoping x outcome =
       path = x.path;
       buried = x.buried;
       pending = x.pending;
-      verdict = record { outcome = outcome; settled = x.verdict.settled; stamp = x.verdict.stamp };
+      verdict = record { outcome = outcome; stamp = x.verdict.stamp };
     }
 
 -- New cells, in the seven places for them.
@@ -119,12 +119,16 @@ settled_seat x outcome stamp =
       path = x.path;
       buried = x.buried;
       pending = none_made;
-      verdict = record { outcome = outcome; settled = true; stamp = stamp };
+      verdict = record { outcome = outcome; stamp = Some stamp };
     }
 
--- The result and stamp of a settled call.
+-- Whether the call of a seat has settled.
+abbrev pub is_settled : Seat → Bool
+is_settled x = is_some x.verdict.stamp
+
+-- The result and stamp of a settled call; a record without a stamp, which no call closes, would tell 0.
 abbrev pub stamped_by : Seat → Stamped
-stamped_by x = record { outcome = x.verdict.outcome; stamp = x.verdict.stamp }
+stamped_by x = record { outcome = x.verdict.outcome; stamp = unwrap_or x.verdict.stamp 0 }
 
 -- The record of a seat.
 abbrev pub seat_of : {K : Type 0} → State K → ℕ → Seat

@@ -14,7 +14,7 @@ use Rattle.mains.specs.declared.Node.{Node}
 use Rattle.mains.specs.declared.PairList.{PairList}
 use Rattle.rules.specs.Edits.{kept_node, kept_list}
 use Rattle.rules.specs.Memory.{Memory, State, main_at, last_count}
-use Rattle.rules.specs.Seats.{seat_of, no_seat, is_idle, is_cut, last_cell, parent_cell, restarted, grown, dropped, at_tomb, moved}
+use Rattle.rules.specs.Seats.{seat_of, no_seat, is_idle, is_settled, is_cut, last_cell, parent_cell, restarted, grown, dropped, at_tomb, moved}
 use Rattle.rules.specs.Sound.{sound, pairs_at}
 use Rattle.rules.specs.declared.Ask.{Ask}
 use Rattle.rules.specs.declared.Ask.TheVariants.{Get, Put, Cut}
@@ -129,7 +129,7 @@ climbed x = cond (nat_le x.path.depth 1) Close (Go (dropped x))
 
 -- An unsettled call goes to READ at the root, a settled one drops its last cell.
 abbrev pub gives_up : Seat → Plan
-gives_up x = cond x.verdict.settled (climbed x) (Go (restarted x))
+gives_up x = cond (is_settled x) (climbed x) (Go (restarted x))
 
 -- CLIMB.
 abbrev pub climbs : Main → Seat → Plan
@@ -150,7 +150,7 @@ swung x = cond (is_cut x.ask && nat_lt 0 x.path.depth) (Settle x.verdict.outcome
 
 -- CLEAN, after a no.
 abbrev pub missed : Seat → Plan
-missed x = cond x.verdict.settled (Go (moved x Parent x.path)) (Go (restarted x))
+missed x = cond (is_settled x) (Go (moved x Parent x.path)) (Go (restarted x))
 
 -- SWAP, by what it said.
 abbrev pub after_swap : Bool → Seat → Plan

@@ -93,8 +93,8 @@ pub struct Pending {
 #[derive(Clone, Copy)]
 pub struct Verdict {
     pub outcome: Outcome,
-    pub settled: bool,
-    pub stamp: u64,
+    // The number of the turn that fixed the outcome; none while it is only what the swap would bring.
+    pub stamp: Option<u64>,
 }
 
 // The record of one seat.

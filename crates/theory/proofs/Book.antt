@@ -6,7 +6,7 @@ use Rattle.std.proofs.lemmas.Bool.{cases_eq}
 use Rattle.rules.specs.History.{Event, History}
 use Rattle.rules.specs.Memory.{State}
 use Rattle.rules.specs.Reached.{Once}
-use Rattle.rules.specs.Seats.{seat_of, no_seat, is_idle, stamped_by}
+use Rattle.rules.specs.Seats.{seat_of, no_seat, is_idle, is_settled, stamped_by}
 use Rattle.rules.specs.Theorem.{StampedCall, Asked, TurnOf, WithdrawalOf, OwnTurn, numbers, Rising}
 use Rattle.rules.specs.declared.Call.{Call}
 use Rattle.rules.specs.declared.Call.TheVariants.{Open, Turn, Withdraw, Count}
@@ -59,15 +59,15 @@ module _ {K : Type 0} where
     pub asked : Memᴰ (record { call = Open t x.ask key; reply = Opened (Ok x.number); number = 0; ticks = at }) h
     pub stored : slice_get keys t ≡ Some key
     pub since : at ≤ ticks
-    pub fresh : x.verdict.settled ≡ false → (c : StampedCall K) → Memᴰ c calls → c.number ≡ x.number → ⊥
-    pub settled : x.verdict.settled ≡ true → Recorded h calls t x.number (stamped_by x)
-    pub phased : Phased x.phase x.verdict.settled
+    pub fresh : is_settled x ≡ false → (c : StampedCall K) → Memᴰ c calls → c.number ≡ x.number → ⊥
+    pub settled : is_settled x ≡ true → Recorded h calls t x.number (stamped_by x)
+    pub phased : Phased x.phase (is_settled x)
 
   -- How a stamped call ended, or that it stands open in its seat's record.
   pub data Ending (h : History K) (t : ℕ) (x : Seat) (c : StampedCall K) : Type 0 where
     finished : (e : ℕ) → TurnOf h t c.number e (Turned (Ok (Some (record { outcome = c.result; stamp = c.stamp })))) → Ending h t x c
     withdrew : (e : ℕ) → WithdrawalOf h t c.number e (Withdrew (Ok (Some (record { outcome = c.result; stamp = c.stamp })))) → Ending h t x c
-    standing : is_idle x.phase ≡ false → x.number ≡ c.number → x.verdict.settled ≡ true → stamped_by x ≡ record { outcome = c.result; stamp = c.stamp } → Ending h t x c
+    standing : is_idle x.phase ≡ false → x.number ≡ c.number → is_settled x ≡ true → stamped_by x ≡ record { outcome = c.result; stamp = c.stamp } → Ending h t x c
 
   -- The life of a stamped call.
   pub record Life (h : History K) (s : State K) (c : StampedCall K) : Type 0 where
@@ -155,7 +155,7 @@ module _ {K : Type 0} where
           phased = o.phased;
         }
       where
-        new : (seat_of s p).verdict.settled ≡ false → (c : StampedCall K) → c.number ≡ (seat_of s p).number → Memᴰ c calls ⊎ (Life (v ∷ h) z c × (is_idle (seat_of s t).phase ≡ false) × (c.number ≡ (seat_of s t).number)) → ⊥
+        new : is_settled (seat_of s p) ≡ false → (c : StampedCall K) → c.number ≡ (seat_of s p).number → Memᴰ c calls ⊎ (Life (v ∷ h) z c × (is_idle (seat_of s t).phase ≡ false) × (c.number ≡ (seat_of s t).number)) → ⊥
         new u c q (inl m) = (b.seats p i).fresh u c m q
         new u c q (inr a) = ne (apart b p t i a.1 (sym q ∙ a.2))
 

@@ -1,5 +1,5 @@
 -- What a turn does to the call of its seat: it fixes one result at most, once, and keeps it until the call ends.
-use Rattle.std.proofs.Common.{◌≡◌, ℕ, suc, Bool, true, false, cond, ◌&&◌, leb, List, Some, None, Ok, Err, Option, Result, sym, refl, ap, ◌∙◌}
+use Rattle.std.proofs.Common.{◌≡◌, ℕ, suc, Bool, true, false, cond, ◌&&◌, leb, List, Some, None, Ok, Err, Option, Result, is_some, unwrap_or, sym, refl, ap, ◌∙◌}
 use Rattle.std.specs.List.{slice_get}
 use Rattle.std.proofs.lemmas.Bool.{and_parts, false≢true}
 use Rattle.panel.specs.declared.Refusal.{Refusal}
@@ -7,7 +7,7 @@ use Rattle.panel.specs.declared.Refusal.TheVariants.{NoSuchSeat, SeatIdle, Count
 use Rattle.rules.specs.Edits.{adds_pair, links_of}
 use Rattle.rules.specs.Memory.{Memory, State, last_count}
 use Rattle.rules.specs.Perform.{Out, Picks, seated, worded, quitted, going, enough, full, made_memory, pending_for, performed, turned}
-use Rattle.rules.specs.Seats.{seat_of, no_seat, idle_seat, is_idle, hoping, prepared, settled_seat, stamped_by}
+use Rattle.rules.specs.Seats.{seat_of, no_seat, idle_seat, is_idle, is_settled, hoping, prepared, settled_seat, stamped_by}
 use Rattle.rules.specs.Turns.{refusing, keyed}
 use Rattle.rules.specs.declared.Edit.{Edit}
 use Rattle.rules.specs.declared.Outcome.{Outcome}
@@ -33,25 +33,25 @@ phased_open Clean b p = refl
 pub record Onward (x y : Seat) : Type 0 where
   pub number : y.number ≡ x.number
   pub ask : y.ask ≡ x.ask
-  pub settled : y.verdict.settled ≡ x.verdict.settled
-  pub same_verdict : x.verdict.settled ≡ true → stamped_by y ≡ stamped_by x
-  pub phased : Phased y.phase y.verdict.settled
+  pub settled : is_settled y ≡ is_settled x
+  pub same_verdict : is_settled x ≡ true → stamped_by y ≡ stamped_by x
+  pub phased : Phased y.phase (is_settled y)
 
 -- Which plans a seat may follow.
 data Fitting (x : Seat) : Plan → Type 0 where
   refuses : {e : Refusal} → Fitting x (Refuse e)
-  quits : {e : Refusal} → x.verdict.settled ≡ false → Fitting x (Quit e)
-  finishes : {r : Outcome} → x.verdict.settled ≡ false → Fitting x (Finish r)
-  settles : {r : Outcome} → x.verdict.settled ≡ false → Fitting x (Settle r)
-  closes : x.verdict.settled ≡ true → Fitting x Close
+  quits : {e : Refusal} → is_settled x ≡ false → Fitting x (Quit e)
+  finishes : {r : Outcome} → is_settled x ≡ false → Fitting x (Finish r)
+  settles : {r : Outcome} → is_settled x ≡ false → Fitting x (Settle r)
+  closes : is_settled x ≡ true → Fitting x Close
   goes : {y : Seat} → Onward x y → Fitting x (Go y)
-  makes : {edit : Edit} {phase : Phase} {n : ℕ} {r : Outcome} → Phased phase x.verdict.settled → (x.verdict.settled ≡ true → r ≡ x.verdict.outcome) → (adds_pair edit ≡ true → x.verdict.settled ≡ false) → Fitting x (Make edit phase n r)
+  makes : {edit : Edit} {phase : Phase} {n : ℕ} {r : Outcome} → Phased phase (is_settled x) → (is_settled x ≡ true → r ≡ x.verdict.outcome) → (adds_pair edit ≡ true → is_settled x ≡ false) → Fitting x (Make edit phase n r)
 
-same_verdict : (x y : Seat) → y.number ≡ x.number → y.ask ≡ x.ask → y.verdict ≡ x.verdict → Phased y.phase y.verdict.settled → Fitting x (Go y)
+same_verdict : (x y : Seat) → y.number ≡ x.number → y.ask ≡ x.ask → y.verdict ≡ x.verdict → Phased y.phase (is_settled y) → Fitting x (Go y)
 same_verdict x y n a v p =
-    Fitting.goes (record { number = n; ask = a; settled = ap (λ (u : Verdict). u.settled) v; same_verdict = λ e. ap (λ (u : Verdict). record { outcome = u.outcome; stamp = u.stamp }) v; phased = p })
+    Fitting.goes (record { number = n; ask = a; settled = ap (λ (u : Verdict). is_some u.stamp) v; same_verdict = λ e. ap (λ (u : Verdict). record { outcome = u.outcome; stamp = unwrap_or u.stamp 0 }) v; phased = p })
 
-fits : (x : Seat) (phase : Phase) (p : Plan) → Phased phase x.verdict.settled → Follows x phase p → Fitting x p
+fits : (x : Seat) (phase : Phase) (p : Plan) → Phased phase (is_settled x) → Follows x phase p → Fitting x p
 fits x phase p k Follows.refuses = Fitting.refuses
 fits x phase p k Follows.meets_full = Fitting.quits k
 fits x phase p k Follows.answers = Fitting.finishes k
@@ -71,10 +71,10 @@ fits x phase p k (Follows.misses u) = same_verdict x _ refl refl refl tt
 -- What becomes of the call in a seat's record x at the tick n, with an answer and the result that is fixed: given up, fixed
 -- and ended, fixed and kept, ended with what was kept, or continued.
 pub data Act (x : Seat) (n : ℕ) : Result (Option Stamped) Refusal → Option Outcome → Seat → Type 0 where
-  quits : (e : Refusal) → x.verdict.settled ≡ false → Act x n (Err e) None idle_seat
-  finishes : (r : Outcome) → x.verdict.settled ≡ false → Act x n (Ok (Some (record { outcome = r; stamp = n }))) (Some r) idle_seat
-  settles : (r : Outcome) → x.verdict.settled ≡ false → Act x n (Ok None) (Some r) (settled_seat x r n)
-  closes : x.verdict.settled ≡ true → Act x n (Ok (Some (stamped_by x))) None idle_seat
+  quits : (e : Refusal) → is_settled x ≡ false → Act x n (Err e) None idle_seat
+  finishes : (r : Outcome) → is_settled x ≡ false → Act x n (Ok (Some (record { outcome = r; stamp = n }))) (Some r) idle_seat
+  settles : (r : Outcome) → is_settled x ≡ false → Act x n (Ok None) (Some r) (settled_seat x r n)
+  closes : is_settled x ≡ true → Act x n (Ok (Some (stamped_by x))) None idle_seat
   goes : (y : Seat) → Onward x y → Act x n (Ok None) None y
 
 -- What a turn did: it was refused and nothing altered, or it counted a tick and left the seat in another record.
@@ -101,10 +101,10 @@ module _ {K : Type 0} (same : K → K → Bool) (hash : K → ℕ) where
       by true true e = Deed.acted s.memory idle_seat o refl refl (Act.quits TableFull (a (and_parts (adds_pair edit) _ e).0))
       by true false e =
           Deed.acted (made_memory s t edit picks) y o refl refl
-          (Act.goes y (record { number = refl; ask = refl; settled = refl; same_verdict = λ i. ap (λ u. record { outcome = u; stamp = (seat_of s t).verdict.stamp }) (w i); phased = q }))
+          (Act.goes y (record { number = refl; ask = refl; settled = refl; same_verdict = λ i. ap (λ u. record { outcome = u; stamp = (stamped_by (seat_of s t)).stamp }) (w i); phased = q }))
 
   -- What a turn does, in whatever places.
-  pub turn_deed : (s : State K) (t : ℕ) (picks : Picks) → (is_idle (seat_of s t).phase ≡ false → Phased (seat_of s t).phase (seat_of s t).verdict.settled) → Deed s t (turned same hash s t picks)
+  pub turn_deed : (s : State K) (t : ℕ) (picks : Picks) → (is_idle (seat_of s t).phase ≡ false → Phased (seat_of s t).phase (is_settled (seat_of s t))) → Deed s t (turned same hash s t picks)
   turn_deed s t picks k = by (no_seat s t) (is_idle (seat_of s t).phase) refl (leb last_count s.table.ticks)
     where
       by : (b c : Bool) → is_idle (seat_of s t).phase ≡ c → (d : Bool) → (let p = cond b (refusing s NoSuchSeat) (cond c (refusing s SeatIdle) (cond d (refusing s CountersSpent) (keyed same hash (slice_get s.memory.keys t) (seat_of s t) s.memory))) in Deed s t (performed same hash s t p.words p.plan picks))

@@ -8,7 +8,7 @@ use Rattle.rules.specs.Calls.{with_call, withdrawal}
 use Rattle.rules.specs.History.{Event, History}
 use Rattle.rules.specs.Memory.{Memory, State}
 use Rattle.rules.specs.Perform.{seated}
-use Rattle.rules.specs.Seats.{seat_of, no_seat, idle_seat, opened_seat, settled_seat, is_idle, stamped_by}
+use Rattle.rules.specs.Seats.{seat_of, no_seat, idle_seat, opened_seat, settled_seat, is_idle, is_settled, stamped_by}
 use Rattle.rules.specs.Theorem.{StampedCall, numbers, Rising}
 use Rattle.rules.specs.declared.Ask.{Ask}
 use Rattle.rules.specs.declared.Call.TheVariants.{Open, Turn, Withdraw}
@@ -29,7 +29,7 @@ busy_in [] t o = absurd (true≢false o)
 busy_in (x ∷ xs) zero o = omega arith
 busy_in (x ∷ xs) (suc t) o = omega (arith, busy_in xs t o)
 
-same_call : (x : Seat) → Phased x.phase x.verdict.settled → Onward x x
+same_call : (x : Seat) → Phased x.phase (is_settled x) → Onward x x
 same_call x p = record { number = refl; ask = refl; settled = refl; same_verdict = λ e. refl; phased = p }
 
 module _ {K : Type 0} where
@@ -47,7 +47,7 @@ module _ {K : Type 0} where
         phased = k.phased;
       }
     where
-      kept : x.verdict.settled ≡ true → Recorded (v ∷ h) calls t y.number (stamped_by y)
+      kept : is_settled x ≡ true → Recorded (v ∷ h) calls t y.number (stamped_by y)
       kept u = rw (k.number, k.same_verdict u) (recorded_on v (λ c m. m) (o.settled u))
 
   -- The calls that were fixed stay those, where an event fixes none.
@@ -136,7 +136,7 @@ module _ {K : Type 0} where
           (λ c e. subst (λ q. Ending (v ∷ h) t q c) (sym (seat_after y n)) (hands c e)))
 
     -- An unsettled call does not stand.
-    not_standing : (seat_of s t).verdict.settled ≡ false → (v : Event K) (y : Seat) (c : StampedCall K) → Ending h t (seat_of s t) c → Ending (v ∷ h) t y c
+    not_standing : is_settled (seat_of s t) ≡ false → (v : Event K) (y : Seat) (c : StampedCall K) → Ending h t (seat_of s t) c → Ending (v ∷ h) t y c
     not_standing u v y c (Ending.finished e i) = Ending.finished e (Memᴰ.tail i)
     not_standing u v y c (Ending.withdrew e i) = Ending.withdrew e (Memᴰ.tail i)
     not_standing u v y c (Ending.standing a k w q) = absurd (false≢true (sym u ∙ w))
@@ -153,7 +153,7 @@ module _ {K : Type 0} where
           result = r;
         }
 
-    module _ (r : Outcome) (u : (seat_of s t).verdict.settled ≡ false) (a : Result (Option Stamped) Refusal) (y : Seat) where
+    module _ (r : Outcome) (u : is_settled (seat_of s t) ≡ false) (a : Result (Option Stamped) Refusal) (y : Seat) where
       abbrev event : Event K
       event = record { call = Turn t; reply = Turned a; number = (seat_of s t).number; ticks = suc s.table.ticks }
 
@@ -224,10 +224,10 @@ module _ {K : Type 0} where
     go_hands v y k c (Ending.finished e i) = Ending.finished e (Memᴰ.tail i)
     go_hands v y k c (Ending.withdrew e i) = Ending.withdrew e (Memᴰ.tail i)
     go_hands v y k c (Ending.standing i n w q) =
-        Ending.standing (phased_open y.phase y.verdict.settled k.phased) (k.number ∙ n) (k.settled ∙ w) (k.same_verdict w ∙ q)
+        Ending.standing (phased_open y.phase (is_settled y) k.phased) (k.number ∙ n) (k.settled ∙ w) (k.same_verdict w ∙ q)
 
     -- What the book has of a settled call is not from the future.
-    settled_recorded : (v : Event K) (u : (seat_of s t).verdict.settled ≡ true) (z : Stamped) → stamped_by (seat_of s t) ≡ z → Recorded (v ∷ h) calls t (seat_of s t).number z × (z.stamp ≤ s.table.ticks)
+    settled_recorded : (v : Event K) (u : is_settled (seat_of s t) ≡ true) (z : Stamped) → stamped_by (seat_of s t) ≡ z → Recorded (v ∷ h) calls t (seat_of s t).number z × (z.stamp ≤ s.table.ticks)
     settled_recorded v u z e =
         let kept = (b.seats t o).settled u in
         let l = (b.each kept.call kept.listed).now in
@@ -290,9 +290,9 @@ module _ {K : Type 0} where
     withdraw_hands c (Ending.standing i k w q) = Ending.withdrew s.table.ticks (Memᴰ.head (rw (sym k, sym q) refl))
 
     pub withdrawal_entered : Book (withdrawal_of (withdrawal (seat_of s t)) ∷ h) (seated s s.memory t idle_seat s.table.ticks) calls
-    withdrawal_entered = by (seat_of s t).verdict.settled refl
+    withdrawal_entered = by (is_settled (seat_of s t)) refl
       where
-        by : (u : Bool) → (seat_of s t).verdict.settled ≡ u → Book (withdrawal_of (cond u (Some (stamped_by (seat_of s t))) None) ∷ h) (seated s s.memory t idle_seat s.table.ticks) calls
+        by : (u : Bool) → is_settled (seat_of s t) ≡ u → Book (withdrawal_of (cond u (Some (stamped_by (seat_of s t))) None) ∷ h) (seated s s.memory t idle_seat s.table.ticks) calls
         by true u =
             passed b t o s.memory refl _ idle_seat s.table.ticks (omega arith) refl
             (λ z e. settled_recorded b t o s.memory refl _ u z cc) (λ i. absurd (true≢false i)) withdraw_hands

@@ -14,7 +14,7 @@ use Rattle.rules.proofs.Naming.{some_is}
 use Rattle.rules.specs.Edits.{adds_pair, links_of, kept_node}
 use Rattle.rules.specs.Memory.{State, last_count}
 use Rattle.rules.specs.Perform.{Picks, Picked, Takes, enough, full, made_memory, pending_for, performed, turned, quitted, going, refused, worded}
-use Rattle.rules.specs.Seats.{seat_of, no_seat, is_idle, last_cell, parent_cell, hoping, prepared}
+use Rattle.rules.specs.Seats.{seat_of, no_seat, is_idle, is_settled, last_cell, parent_cell, hoping, prepared}
 use Rattle.rules.specs.Sound.{sound}
 use Rattle.rules.specs.Theorem.{StampedCall}
 use Rattle.rules.specs.Turns.{refusing, keyed, planned}
@@ -61,7 +61,7 @@ module _ {K : Type 0} (same : K → K → Bool) (hash : K → ℕ) (laws : KeyLa
     fixed {z} r w more (Grown.longer l at v e) =
         subst (λ (j : K). Moved same hash s z xs calls (fixed_as s t j at r ∷ calls)) (some_is k l (sym key ∙ e)) (w at)
 
-    phased : Phased x.phase x.verdict.settled
+    phased : Phased x.phase (is_settled x)
     phased = (g.steady.calls t o).1.phased
 
     held_last : (c n : ℕ) (y : Main) → last_cell x ≡ Some c → Holds same hash s.memory c n y → Holds same hash s.memory (last_of x) n y
@@ -88,7 +88,7 @@ module _ {K : Type 0} (same : K → K → Bool) (hash : K → ℕ) (laws : KeyLa
     reading e n y h d p u (Reads.lacks q v) = fixed Absent (lacks same hash laws g t k o key calls e n y h q v)
     reading e n y h d p u (Reads.finds {v = v} q w) = fixed (Found v) (finds same hash laws g t k o key calls e n y h q v w)
     reading e n y h d p u (Reads.grows b c q) = unfixed (grows same hash laws g t k o key calls e (node_low same hash laws s.memory.pairs x.path.depth b d) n b h c q)
-    reading e n y h d p u (Reads.meets q) = unfixed (entombs same hash laws g t k o key calls Read e false (subst (λ (a : Phase). Phased a x.verdict.settled) e phased) refl n q h)
+    reading e n y h d p u (Reads.meets q) = unfixed (entombs same hash laws g t k o key calls Read e false (subst (λ (a : Phase). Phased a (is_settled x)) e phased) refl n q h)
     reading e n y h d p u (Reads.drafts {edit = edit} {r = r} w) =
         making edit Swap n r u (λ _. e)
         (λ room. going_on same hash g.shows t k key (in_seats same hash laws g t k o key calls) (in_shown same hash laws g t k o key calls) (made_memory s t edit picks) refl _ _
@@ -123,7 +123,7 @@ module _ {K : Type 0} (same : K → K → Bool) (hash : K → ℕ) (laws : KeyLa
         (fixed x.verdict.outcome (finishes same hash laws g t k o key calls e (ap (slice_get s.memory.words) (sym (last_is x c l)) ∙ h) q))
     turning p words u (Sees.loses e) = unfixed (loses same hash laws g t k o key calls e)
     turning p words u (Sees.buries e c n q l h d) =
-        unfixed (entombs same hash laws g t k o key calls Climb e true (subst (λ (a : Phase). Phased a x.verdict.settled) e phased) refl n q (held_last c n _ l h))
+        unfixed (entombs same hash laws g t k o key calls Climb e true (subst (λ (a : Phase). Phased a (is_settled x)) e phased) refl n q (held_last c n _ l h))
     turning p words u (Sees.climbs_close e c n y l h q d) = unfixed (climbs_out same hash laws g t k o key calls e n y (held_last c n y l h) q d)
     turning p words u (Sees.climbs_drop e c n y l h q d) = unfixed (climbs_on same hash laws g t k o key calls e n y (held_last c n y l h) q d)
     turning p words u (Sees.contracts e c n y l h d b) =

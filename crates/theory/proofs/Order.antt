@@ -8,7 +8,7 @@ use Rattle.rules.specs.History.{Event, History, bears, Does, Runs}
 use Rattle.rules.specs.Memory.{Memory, State, last_count}
 use Rattle.rules.specs.Perform.{Out, seated}
 use Rattle.rules.specs.Reached.{Once}
-use Rattle.rules.specs.Seats.{seat_of, no_seat, idle_seat, is_idle, stamped_by}
+use Rattle.rules.specs.Seats.{seat_of, no_seat, idle_seat, is_idle, is_settled, stamped_by}
 use Rattle.rules.specs.Theorem.{StampedCall, Asked, TurnOf, WithdrawalOf, Ends, IsStamped, Ordered, Stays, numbers, Rising}
 use Rattle.rules.specs.declared.Ask.{Ask}
 use Rattle.rules.specs.declared.Call.{Call}
@@ -129,16 +129,16 @@ module _ {K : Type 0} where
   by_number (a ∷ calls) c d o (Memᴰ.tail i) (Memᴰ.tail j) e = by_number calls c d o.1 i j e
 
   -- What a withdrawal would tell of a settled call, and only of one.
-  tells_settled : (s : State K) (t : ℕ) (z : Stamped) → (withdrawn s t).answer ≡ Ok (Some z) → (is_idle (seat_of s t).phase ≡ false) × ((seat_of s t).verdict.settled ≡ true) × (stamped_by (seat_of s t) ≡ z)
-  tells_settled s t z e = by (no_seat s t) (is_idle (seat_of s t).phase) refl (seat_of s t).verdict.settled refl e
+  tells_settled : (s : State K) (t : ℕ) (z : Stamped) → (withdrawn s t).answer ≡ Ok (Some z) → (is_idle (seat_of s t).phase ≡ false) × (is_settled (seat_of s t) ≡ true) × (stamped_by (seat_of s t) ≡ z)
+  tells_settled s t z e = by (no_seat s t) (is_idle (seat_of s t).phase) refl (is_settled (seat_of s t)) refl e
     where
-      by : (u i : Bool) → is_idle (seat_of s t).phase ≡ i → (k : Bool) → (seat_of s t).verdict.settled ≡ k → (let left : Left K (Option Stamped) = cond u (refused_as s NoSuchSeat) (cond i (refused_as s SeatIdle) (record { state = seated s s.memory t idle_seat s.table.ticks; answer = Ok (cond k (Some (stamped_by (seat_of s t))) None) })) in left.answer ≡ Ok (Some z)) → (is_idle (seat_of s t).phase ≡ false) × ((seat_of s t).verdict.settled ≡ true) × (stamped_by (seat_of s t) ≡ z)
+      by : (u i : Bool) → is_idle (seat_of s t).phase ≡ i → (k : Bool) → is_settled (seat_of s t) ≡ k → (let left : Left K (Option Stamped) = cond u (refused_as s NoSuchSeat) (cond i (refused_as s SeatIdle) (record { state = seated s s.memory t idle_seat s.table.ticks; answer = Ok (cond k (Some (stamped_by (seat_of s t))) None) })) in left.answer ≡ Ok (Some z)) → (is_idle (seat_of s t).phase ≡ false) × (is_settled (seat_of s t) ≡ true) × (stamped_by (seat_of s t) ≡ z)
       by true i o k w e = let z : ◌≡◌ {A = ℕ} 0 1 = cc in absurd (omega arith)
       by false true o k w e = let z : ◌≡◌ {A = ℕ} 0 1 = cc in absurd (omega arith)
       by false false o false w e = let z : ◌≡◌ {A = ℕ} 0 1 = cc in absurd (omega arith)
       by false false o true w e = (o, w, cc)
 
-  settled_tells : (s : State K) (t : ℕ) → no_seat s t ≡ false → is_idle (seat_of s t).phase ≡ false → (seat_of s t).verdict.settled ≡ true → (withdrawn s t).answer ≡ Ok (Some (stamped_by (seat_of s t)))
+  settled_tells : (s : State K) (t : ℕ) → no_seat s t ≡ false → is_idle (seat_of s t).phase ≡ false → is_settled (seat_of s t) ≡ true → (withdrawn s t).answer ≡ Ok (Some (stamped_by (seat_of s t)))
   settled_tells s t u i k = rw (u, i, k) refl
 
   module _ {h : History K} {s : State K} {calls : List (StampedCall K)} (b : Book h s calls) where

@@ -11,7 +11,7 @@ use Rattle.machine.specs.Machine.{Mem, IsTomb, main, word, tomb, key, path, Expe
 use Rattle.machine.specs.Tree.{In, nth as placed}
 use Rattle.rules.specs.Edits.{first, rest}
 use Rattle.rules.specs.InUse.{is_pending}
-use Rattle.rules.specs.Seats.{is_idle, is_put, path_cells, new_cells}
+use Rattle.rules.specs.Seats.{is_idle, is_settled, is_put, path_cells, new_cells}
 use Rattle.rules.specs.declared.Ask.{Ask}
 use Rattle.rules.specs.declared.Ask.TheVariants.{Get, Put, Cut}
 use Rattle.rules.specs.declared.NewCell.{NewCell}
@@ -116,11 +116,11 @@ module _ {K : Type 0} (same : K → K → Bool) (hash : K → ℕ) (m : Mem K) (
       subst (λ (l : K). PathOK same hash chunk_at m l (above x.path.cells (suc x.path.depth))) (key_swapping x.ask x.pending.adds x.verdict.outcome k) ok.path
   seat_path Climb x o u ok = ok
   seat_path Parent x o u ok =
-      below_tomb x ok.0 (subst (λ (l : K). PathOK same hash chunk_at m l (above_of x)) (key_calling x.verdict.settled x.ask k) ok.1)
+      below_tomb x ok.0 (subst (λ (l : K). PathOK same hash chunk_at m l (above_of x)) (key_calling (is_settled x) x.ask k) ok.1)
   seat_path Clean x o u ok =
       below_tomb x ok.0
       (subst (PathOK same hash chunk_at m k) (sym (nearest x.path.cells x.path.depth (u refl)))
-      (subst (λ (l : K). PathOK same hash chunk_at m l (first (above_of x) ∷ rest (above_of x))) (key_calling x.verdict.settled x.ask k) ok.1.path))
+      (subst (λ (l : K). PathOK same hash chunk_at m l (first (above_of x) ∷ rest (above_of x))) (key_calling (is_settled x) x.ask k) ok.1.path))
 
   -- Each cell of an open call's path is reached along the key's hash, or holds a tomb.
   pub cell_at : (phase : Phase) (x : Seat) → is_idle phase ≡ false → (is_up phase ≡ true → 1 ≤ x.path.depth) → SeatOK same hash chunk_at m (shown_as phase x k)

@@ -14,7 +14,7 @@ use Rattle.mains.specs.declared.Main.TheVariants.{Node as node, Tomb as tomb, Li
 use Rattle.mains.specs.declared.Node.{Node}
 use Rattle.mains.specs.declared.PairList.{PairList}
 use Rattle.rules.specs.Memory.{Memory}
-use Rattle.rules.specs.Seats.{is_idle, is_cut, restarted, grown, dropped, at_tomb, moved}
+use Rattle.rules.specs.Seats.{is_idle, is_settled, is_cut, restarted, grown, dropped, at_tomb, moved}
 use Rattle.rules.specs.Sound.{sound, pairs_at}
 use Rattle.rules.specs.Turns.{look, at_nothing, at_equal, at_other, not_listed, listed_at, place_of, at_place, climbed, gives_up, climbs, at_parent, after_swap, after_clean, at_pair, at_branch, at_list, read_plan, parent_plan, decide, decided, keyed}
 use Rattle.rules.specs.declared.Ask.{Ask}
@@ -43,11 +43,11 @@ pub data Follows (x : Seat) : Phase → Plan → Type 0 where
   meets_tomb : {phase : Phase} (p : ℕ) → 1 ≤ x.path.depth → Follows x phase (Go (at_tomb x p))
   settles : is_cut x.ask ≡ true → 1 ≤ x.path.depth → Follows x Swap (Settle x.verdict.outcome)
   finishes : Follows x Swap (Finish x.verdict.outcome)
-  restarts : {phase : Phase} → (Phased phase x.verdict.settled → x.verdict.settled ≡ false) → Follows x phase (Go (restarted x))
-  closes : {phase : Phase} → (Phased phase x.verdict.settled → x.verdict.settled ≡ true) → Follows x phase Close
-  drops : {phase : Phase} → (Phased phase x.verdict.settled → x.verdict.settled ≡ true) → 2 ≤ x.path.depth → Follows x phase (Go (dropped x))
+  restarts : {phase : Phase} → (Phased phase (is_settled x) → is_settled x ≡ false) → Follows x phase (Go (restarted x))
+  closes : {phase : Phase} → (Phased phase (is_settled x) → is_settled x ≡ true) → Follows x phase Close
+  drops : {phase : Phase} → (Phased phase (is_settled x) → is_settled x ≡ true) → 2 ≤ x.path.depth → Follows x phase (Go (dropped x))
   cleans : {y : Main} {n : ℕ} → Follows x Parent (Make (Fixed y) Clean n x.verdict.outcome)
-  misses : x.verdict.settled ≡ true → Follows x Clean (Go (moved x Parent x.path))
+  misses : is_settled x ≡ true → Follows x Clean (Go (moved x Parent x.path))
 
 -- READ
 
@@ -87,13 +87,13 @@ module _ (x : Seat) where
 
   -- CLIMB, PARENT, CLEAN AND SWAP
 
-  climbs_up : {phase : Phase} → (Phased phase x.verdict.settled → x.verdict.settled ≡ true) → Follows x phase (climbed x)
+  climbs_up : {phase : Phase} → (Phased phase (is_settled x) → is_settled x ≡ true) → Follows x phase (climbed x)
   climbs_up k =
       either (leb x.path.depth 1) _ _ (λ e. Follows.closes k)
       (λ e. Follows.drops k (leb-false x.path.depth 1 e))
 
   gives_up_lem : {phase : Phase} → Follows x phase (gives_up x)
-  gives_up_lem = either x.verdict.settled _ _ (λ e. climbs_up (λ p. e)) (λ e. Follows.restarts (λ p. e))
+  gives_up_lem = either (is_settled x) _ _ (λ e. climbs_up (λ p. e)) (λ e. Follows.restarts (λ p. e))
 
   at_parent_lem : (o : Option Branch) (n : ℕ) (y : Node) (q i c : ℕ) → Follows x Parent (at_parent o x n y q i c)
   at_parent_lem None n y q i c = gives_up_lem
@@ -109,7 +109,7 @@ module _ (x : Seat) where
 
   after_clean_lem : (b : Bool) → Follows x Clean (after_clean b x)
   after_clean_lem true = gives_up_lem
-  after_clean_lem false = either x.verdict.settled _ _ (λ e. Follows.misses e) (λ e. Follows.restarts (λ p. e))
+  after_clean_lem false = either (is_settled x) _ _ (λ e. Follows.misses e) (λ e. Follows.restarts (λ p. e))
 
   module _ {K : Type 0} (same : K → K → Bool) (hash : K → ℕ) where
     at_pair_lem : (o : Option (Pair K)) (key : K) (n : ℕ) (y : Node) (q i p : ℕ) → Follows x Read (at_pair same hash o x key n y q i p)

@@ -6,7 +6,7 @@ use Rattle.machine.specs.Machine.{Op, get, put, renew, cutting, climb, idle, rea
 use Rattle.machine.specs.Machine.{Seat as Place, State as Shape}
 use Rattle.rules.specs.Edits.{first, rest}
 use Rattle.rules.specs.Memory.{State}
-use Rattle.rules.specs.Seats.{seat_of, is_idle, new_cells}
+use Rattle.rules.specs.Seats.{seat_of, is_idle, is_settled, new_cells}
 use Rattle.rules.specs.declared.Ask.{Ask}
 use Rattle.rules.specs.declared.Ask.TheVariants.{Get, Put, Cut}
 use Rattle.rules.specs.declared.NewCell.{NewCell}
@@ -65,9 +65,9 @@ shown_as Read x k = read (asked x.ask k) (last_of x ∷ above_of x)
 shown_as Swap x k =
     swap (swapping x.ask x.pending.adds x.verdict.outcome k) (last_of x) (above_of x) x.pending.expected x.pending.made (made_pair x.ask x.pending.pair) (news (new_cells x))
 shown_as Climb x k = read (climb k) (last_of x ∷ above_of x)
-shown_as Parent x k = parent (calling x.verdict.settled x.ask k) x.buried (last_of x) (above_of x)
+shown_as Parent x k = parent (calling (is_settled x) x.ask k) x.buried (last_of x) (above_of x)
 shown_as Clean x k =
-    clean (calling x.verdict.settled x.ask k) x.buried (last_of x) (first (above_of x)) (rest (above_of x)) x.pending.expected x.pending.made
+    clean (calling (is_settled x) x.ask k) x.buried (last_of x) (first (above_of x)) (rest (above_of x)) x.pending.expected x.pending.made
 
 abbrev pub shown_seat : {K : Type 0} → Seat → K → Place K
 shown_seat x k = shown_as x.phase x k

@@ -15,7 +15,7 @@ use Rattle.mains.specs.declared.PairList.{PairList}
 use Rattle.rules.specs.Edits.{kept_node, kept_list}
 use Rattle.rules.specs.Memory.{Memory, main_at}
 use Rattle.rules.specs.Reached.{is_tomb}
-use Rattle.rules.specs.Seats.{is_idle, is_cut, is_put, last_cell, parent_cell, restarted, grown, dropped, at_tomb, moved}
+use Rattle.rules.specs.Seats.{is_idle, is_settled, is_cut, is_put, last_cell, parent_cell, restarted, grown, dropped, at_tomb, moved}
 use Rattle.rules.specs.Sound.{sound, all_alike, pairs_at}
 use Rattle.rules.specs.Turns.{Look, look, reads as read_of, swaps as swap_of, saw_main, saw_word, swapped_word, at_nothing, at_equal, at_other, not_listed, listed_at, place_of, at_place, climbed, gives_up, climbs, at_parent, swung, missed, at_pair, at_branch, at_list, read_plan, parent_plan, decide, decided, keyed}
 use Rattle.rules.specs.declared.Ask.{Ask}
@@ -93,9 +93,9 @@ module _ {K : Type 0} (same : K → K → Bool) (hash : K → ℕ) where
 
   -- A settled call drops its last cell, an unsettled one starts again.
   pub data Leaves (x : Seat) : Plan → Type 0 where
-    closes : x.verdict.settled ≡ true → x.path.depth ≤ 1 → Leaves x Close
-    drops : x.verdict.settled ≡ true → 2 ≤ x.path.depth → Leaves x (Go (dropped x))
-    restarts : x.verdict.settled ≡ false → Leaves x (Go (restarted x))
+    closes : is_settled x ≡ true → x.path.depth ≤ 1 → Leaves x Close
+    drops : is_settled x ≡ true → 2 ≤ x.path.depth → Leaves x (Go (dropped x))
+    restarts : is_settled x ≡ false → Leaves x (Go (restarted x))
 
   -- The cell c, read at an index, does not name the cell d at the key's chunk.
   pub data Unnamed (k : K) (index d : ℕ) : Main → Type 0 where
@@ -127,8 +127,8 @@ module _ {K : Type 0} (same : K → K → Bool) (hash : K → ℕ) where
         → Sees m x k (Make (Fixed (kept_node (x.path.depth - 1) (replaced y (chunk_at (hash k) (x.path.depth - 1)) (pair x.buried)))) Clean n x.verdict.outcome) m.words
     parts : x.phase ≡ Parent → (c n : ℕ) (y : Main) → parent_cell x ≡ Some c → Holds m c n y → Unnamed k (x.path.depth - 1) (get_or x.path.cells x.path.depth 0) y → {p : Plan} → Leaves x p → Sees m x k p m.words
     cleans : x.phase ≡ Clean → (c : ℕ) → parent_cell x ≡ Some c → slice_get m.words c ≡ Some x.pending.expected → {p : Plan} → Leaves x p → Sees m x k p (set m.words c x.pending.made)
-    misses : x.phase ≡ Clean → x.verdict.settled ≡ true → Sees m x k (Go (moved x Parent x.path)) m.words
-    gives_up_lem : x.phase ≡ Clean → x.verdict.settled ≡ false → Sees m x k (Go (restarted x)) m.words
+    misses : x.phase ≡ Clean → is_settled x ≡ true → Sees m x k (Go (moved x Parent x.path)) m.words
+    gives_up_lem : x.phase ≡ Clean → is_settled x ≡ false → Sees m x k (Go (restarted x)) m.words
 
   -- THE PROOF, ALONG THE TREE OF THE RULES
 
@@ -209,7 +209,7 @@ module _ {K : Type 0} (same : K → K → Bool) (hash : K → ℕ) where
 
     leaves : Leaves x (gives_up x)
     leaves =
-        choice (Leaves x) x.verdict.settled _ _
+        choice (Leaves x) (is_settled x) _ _
         (λ u. choice (Leaves x) (leb x.path.depth 1) _ _ (λ e. Leaves.closes u (leb-true x.path.depth 1 e)) (λ e. Leaves.drops u (leb-false x.path.depth 1 e)))
         (λ u. Leaves.restarts u)
 
@@ -312,7 +312,7 @@ module _ {K : Type 0} (same : K → K → Bool) (hash : K → ℕ) where
           by false u b v = Sees.finishes e c l h (inl u)
 
     clean_no : x.phase ≡ Clean → Sees m x k (missed x) m.words
-    clean_no e = choice (λ p. Sees m x k p m.words) x.verdict.settled _ _ (λ u. Sees.misses e u) (λ u. Sees.gives_up_lem e u)
+    clean_no e = choice (λ p. Sees m x k p m.words) (is_settled x) _ _ (λ u. Sees.misses e u) (λ u. Sees.gives_up_lem e u)
 
     looks : (phase : Phase) → x.phase ≡ phase → is_idle phase ≡ false → (o : Option ℕ) → looked_at phase x ≡ o → Sees m x k (decided same hash (look phase x m).seen x k m) (look phase x m).words
     looks Idle e i o g = absurd (true≢false i)

@@ -9,7 +9,7 @@ use Rattle.rules.specs.Edits.{Link, adds_pair, links_of, with_cells, with_mains,
 use Rattle.rules.specs.History.{Does, Runs}
 use Rattle.rules.specs.Memory.{Memory, State, last_count}
 use Rattle.rules.specs.Perform.{Out, Picks, seated, worded, quitted, going, enough, full, made_memory, with_new, chain_in, pending_for, performed, turned, value_of}
-use Rattle.rules.specs.Seats.{seat_of, no_seat, idle_seat, opened_seat, is_idle, hoping, prepared, settled_seat, last_cell, parent_cell}
+use Rattle.rules.specs.Seats.{seat_of, no_seat, idle_seat, opened_seat, is_idle, is_settled, hoping, prepared, settled_seat, last_cell, parent_cell}
 use Rattle.rules.specs.Turns.{Look, look, reads, swaps, saw_word, saw_main, swapped_word, refusing, keyed}
 use Rattle.rules.specs.declared.Ask.{Ask}
 use Rattle.rules.specs.declared.Call.{Call}
@@ -45,7 +45,7 @@ not_up : {A : Type 0} → false ≡ true → A
 not_up e = absurd (false≢true e)
 
 -- A seat that goes on keeps the rules.
-go_kept : (x : Seat) (phase : Phase) (y : Seat) → Kept x → (is_up phase ≡ true → 1 ≤ x.path.depth) → Phased phase x.verdict.settled → Follows x phase (Go y) → (is_idle y.phase ≡ false) × Kept y
+go_kept : (x : Seat) (phase : Phase) (y : Seat) → Kept x → (is_up phase ≡ true → 1 ≤ x.path.depth) → Phased phase (is_settled x) → Follows x phase (Go y) → (is_idle y.phase ≡ false) × Kept y
 go_kept x phase y k up p (Follows.descends d l) =
     (refl, record { slots = length-set x.path.cells (x.path.depth + 1) d ∙ k.slots; root = rw (plus_one x.path.depth) (first_stays x.path.cells x.path.depth d ∙ k.root); short = omega (arith, l); above = not_up; phased = p; cut = k.cut })
   where
@@ -64,7 +64,7 @@ settle_kept : (x : Seat) (phase : Phase) (r : Outcome) (n : ℕ) → Kept x → 
 settle_kept x phase r n k (Follows.settles c l) =
     record { slots = k.slots; root = k.root; short = k.short; above = λ e. l; phased = refl; cut = λ e. c }
 
-make_kept : (x : Seat) (phase after : Phase) (edit : Edit) (n : ℕ) (r : Outcome) (pending : Pending) → Kept x → (is_up phase ≡ true → 1 ≤ x.path.depth) → Phased phase x.verdict.settled → Follows x phase (Make edit after n r) → (is_idle after ≡ false) × Kept (prepared (hoping x r) after pending)
+make_kept : (x : Seat) (phase after : Phase) (edit : Edit) (n : ℕ) (r : Outcome) (pending : Pending) → Kept x → (is_up phase ≡ true → 1 ≤ x.path.depth) → Phased phase (is_settled x) → Follows x phase (Make edit after n r) → (is_idle after ≡ false) × Kept (prepared (hoping x r) after pending)
 make_kept x phase after edit n r pending k up p Follows.prepares =
     (refl, record { slots = k.slots; root = k.root; short = k.short; above = not_up; phased = p; cut = k.cut })
 make_kept x phase after edit n r pending k up p Follows.cleans =

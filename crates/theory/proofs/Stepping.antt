@@ -18,7 +18,7 @@ use Rattle.rules.specs.Edits.{first, rest}
 use Rattle.rules.specs.Memory.{Memory, State, main_at, then}
 use Rattle.rules.specs.Perform.{seated, worded}
 use Rattle.rules.specs.Reached.{is_tomb}
-use Rattle.rules.specs.Seats.{seat_of, idle_seat, is_idle, is_put, is_cut, settled_seat, restarted, grown, dropped, at_tomb, moved}
+use Rattle.rules.specs.Seats.{seat_of, idle_seat, is_idle, is_settled, is_put, is_cut, settled_seat, restarted, grown, dropped, at_tomb, moved}
 use Rattle.rules.specs.Theorem.{StampedCall}
 use Rattle.rules.specs.declared.Ask.{Ask}
 use Rattle.rules.specs.declared.Ask.TheVariants.{Get, Put, Cut}
@@ -175,7 +175,7 @@ module _ {K : Type 0} (same : K → K → Bool) (hash : K → ℕ) (laws : KeyLa
       ∙ (view_shown (last_of x) n (node y) h (chunk_at (hash k) x.path.depth) ∙ cell_shown same hash s.memory k x.path.depth y d b)))))
 
   -- READ and CLIMB meet a tomb.
-  pub entombs : (phase : Phase) → x.phase ≡ phase → (b : Bool) → x.verdict.settled ≡ b → shown_as phase x k ≡ read (calling b x.ask k) (last_of x ∷ above_of x) → (n p : ℕ) → Holds same hash s.memory (last_of x) n (tomb p) → After s.memory (at_tomb x p) calls
+  pub entombs : (phase : Phase) → x.phase ≡ phase → (b : Bool) → is_settled x ≡ b → shown_as phase x k ≡ read (calling b x.ask k) (last_of x ∷ above_of x) → (n p : ℕ) → Holds same hash s.memory (last_of x) n (tomb p) → After s.memory (at_tomb x p) calls
   entombs phase e b u q n p h =
       goes (at_tomb x p) (parent (calling b x.ask k) p (last_of x) (above_of x)) refl (ap (λ (c : Bool). parent (calling c x.ask k) p (last_of x) (above_of x)) (sym u))
       (as_shown phase e _
@@ -263,8 +263,8 @@ module _ {K : Type 0} (same : K → K → Bool) (hash : K → ℕ) (laws : KeyLa
   rest_long l = ap (λ (cs : List ℕ). length (rest cs)) (above_two x.path.cells x.path.depth l) ∙ length_above x.path.cells (x.path.depth - 1)
 
   -- The seat with its cell above told apart.
-  parent_is : x.phase ≡ Parent → 1 ≤ x.path.depth → get_or xs t idle ≡ parent (calling x.verdict.settled x.ask k) x.buried (last_of x) (first (above_of x) ∷ rest (above_of x))
-  parent_is e l = seat_is Parent e ∙ ap (parent (calling x.verdict.settled x.ask k) x.buried (last_of x)) (nearest x.path.cells x.path.depth l)
+  parent_is : x.phase ≡ Parent → 1 ≤ x.path.depth → get_or xs t idle ≡ parent (calling (is_settled x) x.ask k) x.buried (last_of x) (first (above_of x) ∷ rest (above_of x))
+  parent_is e l = seat_is Parent e ∙ ap (parent (calling (is_settled x) x.ask k) x.buried (last_of x)) (nearest x.path.cells x.path.depth l)
 
   -- The cell above does not name the last one, so it does not show it.
   unnamed : (c n : ℕ) (y : Main) → Holds same hash s.memory c n y → Unnamed same hash k (x.path.depth - 1) (last_of x) y → view (shown_mem s.memory) c (chunk_at (hash k) (x.path.depth - 1)) ≡ on (last_of x) → ⊥
@@ -279,7 +279,7 @@ module _ {K : Type 0} (same : K → K → Bool) (hash : K → ℕ) (laws : KeyLa
 
   -- The seat of the machine after the last cell is left.
   abbrev pub leaving : Place K
-  leaving = returns (calling x.verdict.settled x.ask k) (first (above_of x) ∷ rest (above_of x))
+  leaving = returns (calling (is_settled x) x.ask k) (first (above_of x) ∷ rest (above_of x))
 
   abbrev pub Left : Memory K → Type 0
   Left m = Turn same hash chunk_at (shown_state s xs) none (record { mem = shown_mem m; seats = set xs t leaving; ticks = suc s.table.ticks })
@@ -289,43 +289,43 @@ module _ {K : Type 0} (same : K → K → Bool) (hash : K → ℕ) (laws : KeyLa
       let l = up (ap is_up e) in
       Turn.goes t leaving (suc s.table.ticks) in_shown (omega arith)
       (subst (λ (z : Place K). Goes same hash chunk_at (shown_mem s.memory) z leaving) (sym (parent_is e l))
-      (Goes.parted (calling x.verdict.settled x.ask k) x.buried (last_of x) (first (above_of x)) (rest (above_of x))
+      (Goes.parted (calling (is_settled x) x.ask k) x.buried (last_of x) (first (above_of x)) (rest (above_of x))
       (λ v. unnamed c n y h u
       (ap (λ (d : ℕ). view (shown_mem s.memory) d (chunk_at (hash k) (x.path.depth - 1))) q
       ∙ (ap (λ (i : ℕ). view (shown_mem s.memory) (first (above_of x)) (chunk_at (hash k) i)) (sym (rest_long l))
-      ∙ (ap (λ (j : K). view (shown_mem s.memory) (first (above_of x)) (chunk_at (hash j) (length (rest (above_of x))))) (sym (key_calling x.verdict.settled x.ask k)) ∙ v))))))
+      ∙ (ap (λ (j : K). view (shown_mem s.memory) (first (above_of x)) (chunk_at (hash j) (length (rest (above_of x))))) (sym (key_calling (is_settled x) x.ask k)) ∙ v))))))
 
   -- A cleaning swap says yes.
   pub cleaned : x.phase ≡ Clean → (c : ℕ) → c ≡ first (above_of x) → slice_get s.memory.words c ≡ Some x.pending.expected → Left (swapped c)
   cleaned e c q h =
       subst (λ (d : ℕ). Left (swapped d)) (sym q)
-      (Turn.cleaned t (calling x.verdict.settled x.ask k) x.buried (last_of x) (first (above_of x)) (rest (above_of x)) x.pending.expected x.pending.made in_shown (seat_is Clean e)
+      (Turn.cleaned t (calling (is_settled x) x.ask k) x.buried (last_of x) (first (above_of x)) (rest (above_of x)) x.pending.expected x.pending.made in_shown (seat_is Clean e)
       ((shows_memory K).word_at s.memory (first (above_of x)) x.pending.expected (ap (slice_get s.memory.words) (sym q) ∙ h)))
 
   -- What the call does then.
   module _ (m : Memory K) (keys : m.keys ≡ s.memory.keys) (l : 1 ≤ x.path.depth) (turn : Left m) where
-    settled_leaves : x.verdict.settled ≡ true → leaving ≡ dropped_to k (above_of x)
+    settled_leaves : is_settled x ≡ true → leaving ≡ dropped_to k (above_of x)
     settled_leaves u =
         ap (λ (b : Bool). returns (calling b x.ask k) (first (above_of x) ∷ rest (above_of x))) u ∙ ap (dropped_to k) (sym (nearest x.path.cells x.path.depth l))
 
-    pub leaves_out : x.verdict.settled ≡ true → x.path.depth ≤ 1 → After m idle_seat calls
+    pub leaves_out : is_settled x ≡ true → x.path.depth ≤ 1 → After m idle_seat calls
     leaves_out u d =
         going_on same hash g.shows t k keyed in_seats in_shown m keys idle_seat leaving (λ _. settled_leaves u ∙ dropped_out same hash x k d) (λ i. absurd (true≢false i)) turn
 
-    pub leaves_on : x.verdict.settled ≡ true → 2 ≤ x.path.depth → After m (dropped x) calls
+    pub leaves_on : is_settled x ≡ true → 2 ≤ x.path.depth → After m (dropped x) calls
     leaves_on u d =
         going_on same hash g.shows t k keyed in_seats in_shown m keys (dropped x) leaving (λ i. absurd (false≢true i)) (λ _. settled_leaves u ∙ dropped_on same hash x k d) turn
 
-    pub leaves_back : x.verdict.settled ≡ false → After m (restarted x) calls
+    pub leaves_back : is_settled x ≡ false → After m (restarted x) calls
     leaves_back u =
         going_on same hash g.shows t k keyed in_seats in_shown m keys (restarted x) leaving (λ i. absurd (false≢true i))
         (λ _. ap (λ (b : Bool). returns (calling b x.ask k) (first (above_of x) ∷ rest (above_of x))) u ∙ returns_asked same hash x.ask k (first (above_of x) ∷ rest (above_of x))) turn
 
   -- A cleaning swap says no.
-  failing : x.phase ≡ Clean → Goes same hash chunk_at (shown_mem s.memory) (get_or xs t idle) (again (calling x.verdict.settled x.ask k) x.buried (last_of x) (first (above_of x) ∷ rest (above_of x)))
-  failing e = as_shown Clean e _ (Goes.fails (calling x.verdict.settled x.ask k) x.buried (last_of x) (first (above_of x)) (rest (above_of x)) x.pending.expected x.pending.made)
+  failing : x.phase ≡ Clean → Goes same hash chunk_at (shown_mem s.memory) (get_or xs t idle) (again (calling (is_settled x) x.ask k) x.buried (last_of x) (first (above_of x) ∷ rest (above_of x)))
+  failing e = as_shown Clean e _ (Goes.fails (calling (is_settled x) x.ask k) x.buried (last_of x) (first (above_of x)) (rest (above_of x)) x.pending.expected x.pending.made)
 
-  pub misses : x.phase ≡ Clean → x.verdict.settled ≡ true → After s.memory (moved x Parent x.path) calls
+  pub misses : x.phase ≡ Clean → is_settled x ≡ true → After s.memory (moved x Parent x.path) calls
   misses e u =
       let l = up (ap is_up e) in
       goes (moved x Parent x.path) _ refl
@@ -333,7 +333,7 @@ module _ {K : Type 0} (same : K → K → Bool) (hash : K → ℕ) (laws : KeyLa
       ∙ (ap (parent (climb k) x.buried (last_of x)) (sym (nearest x.path.cells x.path.depth l))
       ∙ ap (λ (b : Bool). parent (calling b x.ask k) x.buried (last_of x) (above_of x)) (sym u))) (failing e)
 
-  pub gives_up_lem : x.phase ≡ Clean → x.verdict.settled ≡ false → After s.memory (restarted x) calls
+  pub gives_up_lem : x.phase ≡ Clean → is_settled x ≡ false → After s.memory (restarted x) calls
   gives_up_lem e u =
       goes (restarted x) _ refl
       (ap (λ (b : Bool). again (calling b x.ask k) x.buried (last_of x) (first (above_of x) ∷ rest (above_of x))) u

@@ -17,7 +17,7 @@ use Rattle.mains.specs.declared.Node.{Node}
 use Rattle.rules.specs.Edits.{Link, edited, kept_node, adds_pair, places, first, rest}
 use Rattle.rules.specs.Memory.{Memory, State}
 use Rattle.rules.specs.Perform.{Picks, Picked, enough, chain_in, made_memory, pending_for, value_of}
-use Rattle.rules.specs.Seats.{seat_of, is_idle, hoping, prepared, chain_of}
+use Rattle.rules.specs.Seats.{seat_of, is_idle, is_settled, hoping, prepared, chain_of}
 use Rattle.rules.specs.Sound.{sound}
 use Rattle.rules.specs.declared.Ask.{Ask}
 use Rattle.rules.specs.declared.Ask.TheVariants.{Get, Put, Cut}
@@ -191,7 +191,7 @@ module _ {K : Type 0} (same : K → K → Bool) (hash : K → ℕ) (laws : KeyLa
 
   -- The call, settled or not.
   abbrev caller : Op K
-  caller = calling x₀.verdict.settled x₀.ask k
+  caller = calling (is_settled x₀) x₀.ask k
 
   module _ (n : ℕ) (y : Node) (h : Holds same hash s.memory c₁ n (node y)) (sd : sound same hash s.memory.pairs a₁ (node y) ≡ true)
       (b : branch_at y (chunk_at (hash k) a₁) ≡ Some (cell d₀)) (ed : edit ≡ Fixed (kept_node a₁ (replaced y (chunk_at (hash k) a₁) (pair x₀.buried)))) where
@@ -200,7 +200,7 @@ module _ {K : Type 0} (same : K → K → Bool) (hash : K → ℕ) (laws : KeyLa
 
     cleans : Cleans same hash chunk_at (shown_main (node y)) a₁ (key caller) d₀ x₀.buried (shown_main y₀)
     cleans =
-        subst (λ (u : K). Cleans same hash chunk_at (shown_main (node y)) a₁ u d₀ x₀.buried (shown_main y₀)) (sym (key_of_call x₀.verdict.settled x₀.ask k))
+        subst (λ (u : K). Cleans same hash chunk_at (shown_main (node y)) a₁ u d₀ x₀.buried (shown_main y₀)) (sym (key_of_call (is_settled x₀) x₀.ask k))
         (subst (λ (u : Edit). Cleans same hash chunk_at (shown_main (node y)) a₁ k d₀ x₀.buried (shown_main (edited u (first picks.pairs) (first picks.cells)))) (sym ed)
         (contracted same hash laws (length s.memory.pairs) g.written.cells k a₁ d₀ x₀.buried y
         (held_fine same hash laws g t k o keyed a₁ over n (node y) h).formed (node_low same hash laws s.memory.pairs a₁ y sd) b))

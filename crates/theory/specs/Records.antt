@@ -4,7 +4,7 @@ use Rattle.std.specs.List.{slice_get}
 use Rattle.rules.specs.Calls.{in_limits, suffices}
 use Rattle.rules.specs.History.{History, Runs}
 use Rattle.rules.specs.Memory.{State, last_count}
-use Rattle.rules.specs.Seats.{seat_of, idle_seat, is_idle, is_cut}
+use Rattle.rules.specs.Seats.{seat_of, idle_seat, is_idle, is_settled, is_cut}
 use Rattle.rules.specs.declared.Figures.{Figures}
 use Rattle.rules.specs.declared.Phase.{Phase}
 use Rattle.rules.specs.declared.Phase.TheVariants.{Idle, Read, Swap, Climb, Parent, Clean}
@@ -35,8 +35,8 @@ pub record Kept (x : Seat) : Type 0 where
   pub root : slice_get x.path.cells 0 ≡ Some 0
   pub short : x.path.depth ≤ 7
   pub above : is_up x.phase ≡ true → 1 ≤ x.path.depth
-  pub phased : Phased x.phase x.verdict.settled
-  pub cut : x.verdict.settled ≡ true → is_cut x.ask ≡ true
+  pub phased : Phased x.phase (is_settled x)
+  pub cut : is_settled x ≡ true → is_cut x.ask ≡ true
 
 -- A table keeps its figures, its memory their need, its counters their end; seats are idle and empty, or keep their rules.
 pub record Steady {K : Type 0} (f : Figures) (s : State K) : Type 0 where

@@ -229,20 +229,16 @@ pub enum Reply {
 }
 
 // The worked scripts give their answers, computed on the rules.
-pub fn scripts_compute() -> u8
+pub fn scripts_compute()
     ensures { Scripts }
-{
-    0
-}
+{}
 
 // The rules have the laws that they must have if they say what they should, for every key kind.
-pub fn laws_stand<K: Key>() -> u8
+pub fn laws_stand<K: Key>()
     ensures map { MapLaws K.Key.same }
     ensures refusals { Refusals K.Key.same K.Key.hash }
     ensures decides { Decides K.Key.same K.Key.hash }
     ensures formats { FormatsFresh K.Key.same K.Key.hash }
     ensures followed { (m : Memory K) → Followed K.Key.same K.Key.hash m }
     ensures counted { (m : Memory K) → Counted K.Key.same K.Key.hash m }
-{
-    0
-}
+{}

@@ -3,13 +3,14 @@ use Rattle.std.proofs.Common.{◌≡◌, ℕ, zero, suc, ◌<◌, Bool, true, fa
 use mathlib.Core.List.{Memᴰ}
 use Rattle.std.specs.List.{slice_get}
 use Rattle.std.proofs.lemmas.Bool.{eqb-true, eq-eqb, ltb-true, lt-ltb, cases_eq, or_cases, or_left, or_right, false≢true}
+use Rattle.std.proofs.lemmas.Option.{none-some, same_Some, slice_get_within}
 use Rattle.mains.specs.declared.Main.{Main}
 use Rattle.mains.specs.declared.Main.TheVariants.{Node as node, Tomb as tomb, List as listing}
 use Rattle.rules.specs.Memory.{Memory, main_at, main_limit}
 use Rattle.rules.specs.Reached.{Reached, ReachedCell, ReachedPair, ReachedTomb, HowMany, Once, cells_of, pairs_of, is_tomb, member, those, of_main, tomb_at, inside, named, tombs_in, level, gathered, cell_count, pair_count, tomb_count}
 use Rattle.rules.specs.Sanity.{Counted}
 use Rattle.rules.specs.Sound.{sound_in}
-use Rattle.rules.proofs.Naming.{then_some, some_is, none_some, sound_in_lem, node_high}
+use Rattle.rules.proofs.Naming.{then_some, sound_in_lem, node_high}
 
 -- LISTS
 
@@ -64,12 +65,6 @@ module _ (xs : List ℕ) where
         all = λ x p. let k = from x p in in_those n x k.1 k.0;
         many = refl;
       }
-
--- What stands in a list stands below its length.
-pub nth_inside : {A : Type 0} (xs : List A) (i : ℕ) (x : A) → slice_get xs i ≡ Some x → i < length xs
-nth_inside [] i x e = absurd (none_some e)
-nth_inside (y ∷ xs) zero x e = omega arith
-nth_inside (y ∷ xs) (suc i) x e = let l = nth_inside xs i x e in omega arith
 
 module _ {K : Type 0} (same : K → K → Bool) (hash : K → ℕ) (m : Memory K) where
   gathered_in : (f : ℕ → List ℕ) (n x : ℕ) → Memᴰ x (gathered same hash m f n) → (i : ℕ) × (i < n) × Memᴰ x (f i)
@@ -222,12 +217,12 @@ module _ {K : Type 0} (same : K → K → Bool) (hash : K → ℕ) (m : Memory K
   place_inside : (index c n : ℕ) (y : Main) → slice_get m.words c ≡ Some n → sound_in same hash m index c ≡ Some y → n < length m.mains
   place_inside index c n y w e =
       let found = then_some (slice_get m.words c) (main_at m.mains) y (sound_in_lem same hash m index c y e).0 in
-      let s = some_is n found.0 (sym w ∙ found.1) in
+      let s = same_Some n found.0 (sym w ∙ found.1) in
       by (ltb n main_limit) (subst (λ x. main_at m.mains x ≡ Some y) (sym s) found.2)
     where
       by : (b : Bool) → cond b (slice_get m.mains n) None ≡ Some y → n < length m.mains
-      by true e = nth_inside m.mains n y e
-      by false e = absurd (none_some e)
+      by true e = slice_get_within m.mains n y e
+      by false e = absurd (none-some _ e)
 
   tombs : HowMany (ReachedTomb same hash m) (tomb_count same hash m)
   unfolding tomb_count

@@ -2,6 +2,7 @@
 use Rattle.std.proofs.Common.{◌≡◌, ℕ, ◌<◌, Bool, true, false, cond, leb, List, [], ◌∷◌, length, set, Some, None, sym, refl, ap, ◌∙◌, subst, arith, length-set}
 use mathlib.Core.List.{Memᴰ}
 use Rattle.std.proofs.lemmas.Bool.{and_parts, leb-true}
+use Rattle.std.proofs.lemmas.Option.{same_Some}
 use Rattle.panel.specs.declared.Refusal.TheVariants.{FigureOutOfLimits, TooLittleMemory}
 use Rattle.mains.specs.Nodes.{empty_node}
 use Rattle.mains.specs.declared.Main.{Main}
@@ -13,7 +14,6 @@ use Rattle.rules.specs.Sanity.{Fresh, FormatsFresh}
 use Rattle.rules.specs.Sound.{sound_in}
 use Rattle.rules.specs.declared.Figures.{Figures}
 use Rattle.rules.specs.declared.Pair.{Pair}
-use Rattle.rules.proofs.Naming.{some_is}
 
 -- Figures that are accepted lie within the limits, and the memory suffices.
 pub accepted : {K : Type 0} (f : Figures) (m : Memory K) → format_refusal f m ≡ None → (in_limits f ≡ true) × (suffices f m ≡ true)
@@ -49,13 +49,13 @@ module _ {K : Type 0} (same : K → K → Bool) (hash : K → ℕ) where
     cells index c (Reached.next {index = i} {c = a} k x e d named within) =
         let before = cells i a k in
         let is : x ≡ node empty_node =
-        some_is x (node empty_node) (sym e ∙ (ap (λ j. sound_in same hash m j a) before.0 ∙ (ap (sound_in same hash m 0) before.1 ∙ empty))) in
+        same_Some x (node empty_node) (sym e ∙ (ap (λ j. sound_in same hash m j a) before.0 ∙ (ap (sound_in same hash m 0) before.1 ∙ empty))) in
         absurd (not_in (cells_of (node empty_node)) no_cells (subst (λ y. Memᴰ d (cells_of y)) is named))
 
     at_root : (index c : ℕ) (x : Main) → Reached same hash m index c → sound_in same hash m index c ≡ Some x → x ≡ node empty_node
     at_root index c x k e =
         let here = cells index c k in
-        some_is x (node empty_node) (sym e ∙ (ap (λ j. sound_in same hash m j c) here.0 ∙ (ap (sound_in same hash m 0) here.1 ∙ empty)))
+        same_Some x (node empty_node) (sym e ∙ (ap (λ j. sound_in same hash m j c) here.0 ∙ (ap (sound_in same hash m 0) here.1 ∙ empty)))
 
     fresh : Fresh same hash m
     fresh =

@@ -3,6 +3,7 @@ use Rattle.std.proofs.Common.{◌≡◌, ℕ, zero, suc, ◌<◌, ◌≤◌, Boo
 use mathlib.Core.List.{Memᴰ}
 use Rattle.std.specs.Option.{option_to_list}
 use Rattle.std.proofs.lemmas.Bool.{cases_eq, and_parts, leb-true}
+use Rattle.std.proofs.lemmas.Option.{none-some, same_Some}
 use Rattle.mains.specs.Nodes.{branch_at}
 use Rattle.mains.specs.declared.Branch.{Branch}
 use Rattle.mains.specs.declared.Branch.TheVariants.{Pair as pair, Cell as cell}
@@ -17,12 +18,6 @@ use Rattle.rules.specs.Sound.{sound, if_sound, sound_in}
 pub then_some : {A B : Type 0} (o : Option A) (f : A → Option B) (b : B) → then o f ≡ Some b → (a : A) × (o ≡ Some a) × (f a ≡ Some b)
 then_some None f b e = let z : ◌≡◌ {A = ℕ} 0 1 = cc in absurd (omega arith)
 then_some (Some a) f b e = (a, refl, e)
-
-pub some_is : {A : Type 0} (a b : A) → Some a ≡ Some b → a ≡ b
-some_is a b e = cc
-
-pub none_some : {A : Type 0} {a : A} → None ≡ Some a → ⊥
-none_some e = let z : ◌≡◌ {A = ℕ} 0 1 = cc in omega arith
 
 cell_listed : (d : ℕ) (bs : List Branch) → Memᴰ (cell d) bs → Memᴰ d (cells_in bs)
 cell_listed d [] m = elim m [ ]
@@ -73,8 +68,8 @@ module _ {K : Type 0} (same : K → K → Bool) (hash : K → ℕ) (m : Memory K
   if_sound_lem index y x e = by (sound same hash m.pairs index y) refl e
     where
       by : (t : Bool) → sound same hash m.pairs index y ≡ t → cond t (Some y) None ≡ Some x → (y ≡ x) × (sound same hash m.pairs index y ≡ true)
-      by true s e = (some_is y x e, s)
-      by false s e = absurd (none_some e)
+      by true s e = (same_Some y x e, s)
+      by false s e = absurd (none-some _ e)
 
   -- A main that is found sound keeps the rules.
   pub sound_in_lem : (index c : ℕ) (x : Main) → sound_in same hash m index c ≡ Some x → (main_in m c ≡ Some x) × (sound same hash m.pairs index x ≡ true)

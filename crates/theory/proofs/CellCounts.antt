@@ -7,6 +7,7 @@ use Rattle.keys.specs.Laws.{KeyLaws}
 use Rattle.keys.specs.Routes.{chunk_at}
 use Rattle.std.specs.List.{slice_get}
 use Rattle.std.proofs.lemmas.Bool.{ne_eqb}
+use Rattle.std.proofs.lemmas.Option.{get_or_from_slice_get}
 use Rattle.machine.proofs.Inv.{Pend, SeatOK, cells as cells_of}
 use Rattle.machine.proofs.Keep.{walk_alike}
 use Rattle.machine.proofs.Swing.{back}
@@ -30,7 +31,7 @@ use Rattle.theory.proofs.Ground.{Ground}
 use Rattle.theory.proofs.Lengths.{within}
 use Rattle.theory.proofs.Reaching.{shows_reach}
 use Rattle.theory.proofs.Seating.{shown_state, shown_as, last_of, above, above_of, news}
-use Rattle.theory.proofs.ShownMemory.{shows_memory, read_at}
+use Rattle.theory.proofs.ShownMemory.{shows_memory}
 use Rattle.theory.proofs.Taking.{taken_alike}
 use Rattle.theory.proofs.Using.{leads_reached}
 use Rattle.theory.specs.Reaching.{Leads}
@@ -70,7 +71,7 @@ parent_is cells zero c e = let z : ◌≡◌ {A = ℕ} 0 1 = cc in absurd (omega
 parent_is cells (suc i) c e =
     let p : suc i - 1 ≡ i = omega arith in
     let q = ne_eqb (suc i) 0 (λ n. omega (arith, n)) in
-    read_at cells i c 0 (sym (ap (λ (j : ℕ). slice_get cells j) p) ∙ (sym (ap (λ (b : Bool). cond b None (slice_get cells (suc i - 1))) q) ∙ e))
+    get_or_from_slice_get cells i c 0 (sym (ap (λ (j : ℕ). slice_get cells j) p) ∙ (sym (ap (λ (b : Bool). cond b None (slice_get cells (suc i - 1))) q) ∙ e))
 
 -- New cells are as many as their numbers.
 news_length : (ks : List NewCell) → length (cells_of (news ks)) ≡ length ks
@@ -119,7 +120,7 @@ module _ {K : Type 0} (same : K → K → Bool) (hash : K → ℕ) (laws : KeyLa
       pub swap_count : x.phase ≡ Swap → last_cell x ≡ Some c
           → cell_count same hash (worded s.memory (set s.memory.words c x.pending.made)) ≤ cell_count same hash s.memory + x.pending.links
       swap_count e l =
-          let a = swung_count _ _ (last_of x) (above_of x) x.pending.expected x.pending.made _ none (news (new_cells x)) (rests Swap e) c (read_at x.path.cells x.path.depth c 0 l) h in
+          let a = swung_count _ _ (last_of x) (above_of x) x.pending.expected x.pending.made _ none (news (new_cells x)) (rests Swap e) c (get_or_from_slice_get x.path.cells x.path.depth c 0 l) h in
           let m = news_length (new_cells x) in
           let n = (g.poised t o).links e in
           omega (arith, a, m, n)

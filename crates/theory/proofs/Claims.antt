@@ -4,7 +4,7 @@ use mathlib.Core.List.Memᴰ
 use mathlib.Core.List.{Memᴰ}
 use lib.ListN.{length-map}
 use Rattle.std.specs.List.{slice_get}
-use Rattle.std.proofs.lemmas.Option.{slice_get-get_or}
+use Rattle.std.proofs.lemmas.Option.{slice_get-get_or, same_Some}
 use Rattle.std.proofs.lemmas.Bool.{cases_eq, cases_Bool, true≢false}
 use Rattle.rules.specs.Edits.{rest}
 use Rattle.rules.specs.InUse.{is_pending}
@@ -16,8 +16,7 @@ use Rattle.rules.specs.declared.NewCell.{NewCell}
 use Rattle.rules.specs.declared.Phase.{Phase}
 use Rattle.rules.specs.declared.Phase.TheVariants.{Idle, Read, Swap, Climb, Parent, Clean}
 use Rattle.rules.specs.declared.Seat.{Seat}
-use Rattle.rules.proofs.Counting.{in_gathered, nth_inside}
-use Rattle.rules.proofs.Naming.{some_is}
+use Rattle.rules.proofs.Counting.{in_gathered}
 use Rattle.theory.proofs.Writing.{Poised}
 use Rattle.theory.specs.Places.{Leaves}
 use Rattle.theory.specs.Records.{Kept, Steady}
@@ -81,7 +80,7 @@ in_map f a b (x ∷ xs) e (Memᴰ.tail m) = Memᴰ.tail (in_map f a b xs e m)
 pub first_or_rest : (c a n : ℕ) (xs : List ℕ) → slice_get xs 0 ≡ Some a → Memᴰ c (take n xs) → (c ≡ a) ⊎ Memᴰ c (rest (take n xs))
 first_or_rest c a zero xs e m = elim m [ ]
 first_or_rest c a (suc n) [] e m = elim m [ ]
-first_or_rest c a (suc n) (x ∷ xs) e (Memᴰ.head h) = inl (h ∙ some_is x a e)
+first_or_rest c a (suc n) (x ∷ xs) e (Memᴰ.head h) = inl (h ∙ same_Some x a e)
 first_or_rest c a (suc n) (x ∷ xs) e (Memᴰ.tail m) = inr m
 
 -- Of n + 1 cells of a path, n at most are below the first.
@@ -91,10 +90,6 @@ rest_length n xs = by (take (n + 1) xs) (length-take (n + 1) xs)
     by : (ys : List ℕ) → length ys ≡ min (n + 1) (length xs) → length (rest ys) ≤ n
     by [] e = omega arith
     by (y ∷ ys) e = omega (arith, e)
-
--- What a place holds is read there.
-pub read_there : (xs : List ℕ) (i n : ℕ) → slice_get xs i ≡ Some n → get_or xs i 0 ≡ n
-read_there xs i n e = some_is _ n (sym (slice_get-get_or xs i 0 (nth_inside xs i n e)) ∙ e)
 
 -- WHAT A SEAT CLAIMS
 

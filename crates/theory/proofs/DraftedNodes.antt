@@ -4,6 +4,7 @@ use mathlib.Core.Option.{none, some}
 use native.Mathlib.Decide.{ℕ_discrete}
 use Rattle.std.specs.List.{slice_get}
 use Rattle.std.proofs.lemmas.Bool.{cond_both, eqb-true, eqb-false}
+use Rattle.std.proofs.lemmas.Option.{none-some}
 use Rattle.keys.proofs.Chunks.{chunk_below}
 use Rattle.keys.specs.Routes.{chunk_at}
 use Rattle.machine.proofs.Laws.{holds}
@@ -16,7 +17,6 @@ use Rattle.mains.specs.declared.Branch.TheVariants.{Pair as pair, Cell as cell}
 use Rattle.mains.specs.declared.Main.{Main}
 use Rattle.mains.specs.declared.Main.TheVariants.{Node as node, Tomb as tomb}
 use Rattle.mains.specs.declared.Node.{Node}
-use Rattle.rules.proofs.Naming.{none_some}
 use Rattle.rules.specs.Edits.{entombed, kept_node}
 use Rattle.rules.specs.Memory.{Memory}
 use Rattle.rules.specs.declared.Pair.{Pair}
@@ -37,7 +37,7 @@ only_is n q r x w o e = by (ℕ_discrete r q)
   where
     by : Dec (r ≡ q) → (r ≡ q) × (Some w ≡ Some x)
     by (yes s) = (s, sym e ∙ (ap (branch_at n) s ∙ o.here))
-    by (no ne) = absurd (none_some (sym (o.alone r ne) ∙ e))
+    by (no ne) = absurd (none-some _ (sym (o.alone r ne) ∙ e))
 
 -- What a node becomes: itself, and below the root each of its pairs has a branch beside it; or, below the root, the tomb of its only branch.
 pub kept_node_lem : (P : Main → Type 0) (index : ℕ) (n : Node) → WellFormed n
@@ -109,7 +109,7 @@ module _ {K : Type 0} (same : K → K → Bool) (hash : K → ℕ) (k : K) (inde
       gone = shows_edits.nothing_from (removed y chunk) chunk (removed_formed y chunk formed) (ap (λ (bs : List Slot). get_or bs chunk nothing) less ∙ get_or-set_same (slots y) chunk nothing nothing inside)
 
       kept_at : (q : ℕ) (b : Branch) → branch_at (removed y chunk) q ≡ Some b → q ≢ chunk
-      kept_at q b h s = none_some (sym gone ∙ (ap (branch_at (removed y chunk)) (sym s) ∙ h))
+      kept_at q b h s = none-some _ (sym gone ∙ (ap (branch_at (removed y chunk)) (sym s) ∙ h))
 
       another : (q : ℕ) → q ≢ chunk → Beside (removed y chunk) q → (w : ℕ) × (w ≢ chunk) × (w ≢ q) × Taken (get_or (slots y) w nothing)
       another q ne b =

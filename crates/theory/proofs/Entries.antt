@@ -3,6 +3,7 @@ use Rattle.std.proofs.Common.{◌≡◌, ℕ, zero, suc, ◌<◌, ◌≤◌, Boo
 use mathlib.Core.List.{Memᴰ}
 use Rattle.std.specs.List.{slice_get}
 use Rattle.std.proofs.lemmas.Bool.{true≢false, false≢true, leb-false, or_parts}
+use Rattle.std.proofs.lemmas.Option.{none-some}
 use Rattle.panel.specs.declared.Refusal.{Refusal}
 use Rattle.rules.specs.Calls.{with_call, withdrawal}
 use Rattle.rules.specs.History.{Event, History}
@@ -19,9 +20,6 @@ use Rattle.rules.specs.declared.Stamped.{Stamped}
 use Rattle.theory.proofs.Book.{Book, Recorded, Sitting, Ending, Life, Shift, Entered, opened_by, ended_by, seat_in, recorded_on, ending_on, entered}
 use Rattle.theory.proofs.Deeds.{phased_open, Onward, Act}
 use Rattle.theory.specs.Records.{Phased}
-
-none_some : {A B : Type 0} {a : A} → ◌≡◌ {A = Option A} None (Some a) → B
-none_some e = let z : ◌≡◌ {A = ℕ} 0 1 = cc in absurd (omega arith)
 
 -- An open seat is one of the table's.
 pub busy_in : (xs : List Seat) (t : ℕ) → is_idle (get_or xs t idle_seat).phase ≡ false → t < length xs
@@ -58,7 +56,7 @@ module _ {K : Type 0} where
       → ((c : StampedCall K) → Ending h t (seat_of s t) c → Ending (v ∷ h) t (seat_of z t) c) → Entered h s calls v z t calls
   unfixed b v t none ends sits inside hands =
       record {
-        opens = λ n e. none_some (sym none ∙ e);
+        opens = λ n e. absurd (none-some _ (sym none ∙ e));
         ends = ends;
         keeps = λ c m. m;
         adds = λ c m. inl m;
@@ -74,7 +72,7 @@ module _ {K : Type 0} where
   heard {s = s} b v p q =
       entered b v 0
       (record { others = λ p ne. refl; rooms = λ p. refl; keys = λ p ne. refl; ticks = omega arith; openings = omega arith })
-      (unfixed b v 0 p (λ y e. none_some (sym q ∙ e))
+      (unfixed b v 0 p (λ y e. absurd (none-some _ (sym q ∙ e)))
       (λ o. let x = b.seats 0 o in carried v (same_call (seat_of s 0) x.phased) refl (omega arith) x)
       (λ o. b.inside 0 o) (λ c e. ending_on v e))
 
@@ -180,7 +178,7 @@ module _ {K : Type 0} where
       fixes counted ends sits ending =
           entered b event t (shift y (suc s.table.ticks) (omega arith))
           (record {
-            opens = λ n e. none_some e;
+            opens = λ n e. absurd (none-some _ e);
             ends = λ z e. (subst (Recorded (event ∷ h) (fixed_call r ∷ calls) t (seat_of s t).number) (sym (ends z e)) fixed_recorded, let q = ap (λ (w : Stamped). w.stamp) (ends z e) in omega (arith, q));
             keeps = λ c i. Memᴰ.tail i;
             adds = new;
@@ -239,7 +237,7 @@ module _ {K : Type 0} where
 
     pub act_entered : (a : Result (Option Stamped) Refusal) (f : Option Outcome) (y : Seat) → Act (seat_of s t) (suc s.table.ticks) a f y → Next h calls (turn_event a) s (seated s m t y (suc s.table.ticks)) t f
     act_entered a f y (Act.quits e u) =
-        not_fixed (passed (turn_event (Err e)) idle_seat (suc s.table.ticks) (omega arith) refl (λ z e. none_some e) (λ i. absurd (true≢false i)) (not_standing u (turn_event (Err e)) idle_seat))
+        not_fixed (passed (turn_event (Err e)) idle_seat (suc s.table.ticks) (omega arith) refl (λ z e. absurd (none-some _ e)) (λ i. absurd (true≢false i)) (not_standing u (turn_event (Err e)) idle_seat))
     act_entered a f y (Act.finishes r u) =
         record {
           more = fixed_call r ∷ calls;
@@ -250,7 +248,7 @@ module _ {K : Type 0} where
     act_entered a f y (Act.settles r u) =
         record {
           more = fixed_call r ∷ calls;
-          book = fixes r u a y (inl refl) (λ z e. none_some e) (λ i. sits) (Ending.standing refl refl refl refl);
+          book = fixes r u a y (inl refl) (λ z e. absurd (none-some _ e)) (λ i. sits) (Ending.standing refl refl refl refl);
           keeps = λ c i. Memᴰ.tail i;
           grown = Grown.longer (b.seats t o).key (b.seats t o).at r (b.seats t o).stored;
         }
@@ -275,7 +273,7 @@ module _ {K : Type 0} where
         (λ i. absurd (true≢false i)) close_hands)
     act_entered a f y (Act.goes x k) =
         not_fixed
-        (passed (turn_event a) x (suc s.table.ticks) (omega arith) refl (λ z e. none_some e)
+        (passed (turn_event a) x (suc s.table.ticks) (omega arith) refl (λ z e. absurd (none-some _ e))
         (λ i. carried (turn_event a) k same_place (omega arith) (b.seats t o)) (go_hands (turn_event a) x k))
 
   -- THE WITHDRAWAL OF AN OPEN CALL
@@ -298,7 +296,7 @@ module _ {K : Type 0} where
             (λ z e. settled_recorded b t o s.memory refl _ u z cc) (λ i. absurd (true≢false i)) withdraw_hands
         by false u =
             passed b t o s.memory refl _ idle_seat s.table.ticks (omega arith) refl
-            (λ z e. none_some e) (λ i. absurd (true≢false i)) (not_standing b t o s.memory refl u _ idle_seat)
+            (λ z e. absurd (none-some _ e)) (λ i. absurd (true≢false i)) (not_standing b t o s.memory refl u _ idle_seat)
 
   -- AN OPENING
 
@@ -357,7 +355,7 @@ module _ {K : Type 0} where
         })
         (record {
           opens = λ n e. let q : suc s.table.openings ≡ n = cc in (omega (arith, q), omega (arith, q));
-          ends = λ y e. none_some e;
+          ends = λ y e. absurd (none-some _ e);
           keeps = λ c i. i;
           adds = λ c i. inl i;
           once = b.once;

@@ -4,6 +4,7 @@ use mathlib.Core.Option.{none, some}
 use Rattle.keys.proofs.Chunks.{chunk_below}
 use Rattle.keys.specs.Routes.{chunk_at}
 use Rattle.std.specs.List.{slice_get}
+use Rattle.std.proofs.lemmas.Option.{none-some}
 use Rattle.machine.specs.Machine.{IsTomb, face, spot, lone, gather}
 use Rattle.machine.specs.Tree.{stands, on, find}
 use Rattle.machine.proofs.Worth.{find_worth}
@@ -24,9 +25,6 @@ use Rattle.theory.proofs.ShownMemory.{shows_memory}
 use Rattle.theory.proofs.Sights.{Lacks, Has}
 use Rattle.theory.specs.Shown.{slot, shown_main, shown_mem, shown_pair}
 
-none_some : {A B : Type 0} {a : A} → ◌≡◌ {A = Option A} None (Some a) → B
-none_some e = let z : ◌≡◌ {A = ℕ} 0 1 = cc in absurd (omega arith)
-
 module _ {K : Type 0} (same : K → K → Bool) (hash : K → ℕ) where
   -- The pairs of a list are gathered as they are.
   gather_shown : (m : Memory K) (ps : List ℕ) (ys : List (Pair K)) → pairs_at m.pairs ps ≡ Some ys → gather (shown_mem m).pairs ps ≡ map shown_pair ys
@@ -40,13 +38,13 @@ module _ {K : Type 0} (same : K → K → Bool) (hash : K → ℕ) where
   -- A key that has a place among pairs is found, with its value.
   place_worth : (k : K) (ys : List (Pair K)) (i v : ℕ) → place_of same k ys ≡ Some (i, v) → worth (find_pair same k (map shown_pair ys)) ≡ some v
   unfolding find_pair
-  place_worth k [] i v e = none_some e
+  place_worth k [] i v e = absurd (none-some _ e)
   place_worth k (y ∷ ys) i v e = by (same y.key k) e (place_of same k ys) refl (place_worth k ys)
     where
       by : (b : Bool) → cond b (Some (0, y.value)) (later (place_of same k ys)) ≡ Some (i, v) → (o : Option (ℕ × ℕ)) → place_of same k ys ≡ o → ((i v : ℕ) → place_of same k ys ≡ Some (i, v) → worth (find_pair same k (map shown_pair ys)) ≡ some v)
           → worth (cond b (some (shown_pair y)) (find_pair same k (map shown_pair ys))) ≡ some v
       by true e o q f = ap (λ u. some (second u)) e
-      by false e None q f = none_some (sym (ap later q) ∙ e)
+      by false e None q f = absurd (none-some _ (sym (ap later q) ∙ e))
       by false e (Some z) q f =
           let u : ◌≡◌ {A = Option (ℕ × ℕ)} (later (Some z)) (Some (i, v)) = sym (ap later q) ∙ e in
           let w = ap second u in f z.0 v (q ∙ ap (λ (n : ℕ). Some (z.0, n)) w)

@@ -4,6 +4,7 @@ use mathlib.Core.List.Memᴰ
 use mathlib.Core.List.{Memᴰ}
 use Rattle.keys.specs.Routes.{chunk_at}
 use Rattle.std.proofs.lemmas.Bool.{cases_Bool, cond_both, cond-false, and_parts, not-true, eqb-true}
+use Rattle.std.proofs.lemmas.Option.{none-some, same_Some}
 use Rattle.mains.specs.Bits.{has}
 use Rattle.mains.specs.Laws.{WellFormed, WellListed, Stands, edited}
 use Rattle.mains.specs.Lists.{listed, appended, relisted, unlisted, of_pairs}
@@ -18,7 +19,6 @@ use Rattle.mains.proofs.Edits.{free_low, inserted_formed, inserted_stands, repla
 use Rattle.mains.proofs.Listings.{listed_appended, appended_formed, listed_relisted, relisted_formed, listed_unlisted, unlisted_formed, pairs_formed}
 use Rattle.mains.proofs.Made.{empty_formed, empty_stands}
 use Rattle.mains.proofs.Standing.{none_has}
-use Rattle.rules.proofs.Naming.{some_is, none_some}
 use Rattle.rules.specs.Edits.{entombed, kept_node, kept_list, link_main, end_of}
 use Rattle.rules.specs.declared.Fork.{Fork}
 use Rattle.theory.proofs.ListPlaces.{in_set, in_take, in_drop}
@@ -55,19 +55,19 @@ module _ {cells : List ℕ} {pairs : ℕ} where
       free : is_free n q ≡ true → Fine cells pairs (node (inserted n q x))
       free t =
           let none = none_has n q (not-true (has n.bitmap q) (and_parts (ltb q 32) (not (has n.bitmap q)) t).1) in
-          fine_edited n (inserted n q x) q (Some x) k (inserted_formed n q x k.formed) (inserted_stands n q x k.formed (free_low n q t) none) (λ b e. subst (Given cells pairs) (some_is x b e) g)
+          fine_edited n (inserted n q x) q (Some x) k (inserted_formed n q x k.formed) (inserted_stands n q x k.formed (free_low n q t) none) (λ b e. subst (Given cells pairs) (same_Some x b e) g)
 
   pub fine_replaced : (n : Node) (q : ℕ) (x : Branch) → Fine cells pairs (node n) → Given cells pairs x → Fine cells pairs (node (replaced n q x))
   fine_replaced n q x k g = ⊎_elim there (λ (e : has n.bitmap q ≡ false). subst (λ (m : Node). Fine cells pairs (node m)) (sym (cond-false (has n.bitmap q) (changed n q x) n e)) k) (cases_Bool (has n.bitmap q))
     where
       there : has n.bitmap q ≡ true → Fine cells pairs (node (replaced n q x))
-      there t = fine_edited n (replaced n q x) q (Some x) k (replaced_formed n q x k.formed) (replaced_stands n q x k.formed t) (λ b e. subst (Given cells pairs) (some_is x b e) g)
+      there t = fine_edited n (replaced n q x) q (Some x) k (replaced_formed n q x k.formed) (replaced_stands n q x k.formed t) (λ b e. subst (Given cells pairs) (same_Some x b e) g)
 
   pub fine_removed : (n : Node) (q : ℕ) → Fine cells pairs (node n) → Fine cells pairs (node (removed n q))
-  fine_removed n q k = fine_edited n (removed n q) q None k (removed_formed n q k.formed) (removed_stands n q k.formed) (λ b e. absurd (none_some e))
+  fine_removed n q k = fine_edited n (removed n q) q None k (removed_formed n q k.formed) (removed_stands n q k.formed) (λ b e. absurd (none-some _ e))
 
   pub fine_empty : Fine cells pairs (node empty_node)
-  fine_empty = fine_from empty_node empty_formed (λ q b e. absurd (none_some (sym (empty_stands q) ∙ e)))
+  fine_empty = fine_from empty_node empty_formed (λ q b e. absurd (none-some _ (sym (empty_stands q) ∙ e)))
 
   pub fine_tomb : (p : ℕ) → p < pairs → Fine cells pairs (tomb p)
   fine_tomb p l = record { formed = tt; inner = λ c m. absurd m; paired = λ q e. subst (λ i. i < pairs) e l }

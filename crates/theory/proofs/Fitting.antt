@@ -3,7 +3,7 @@
 use Rattle.std.proofs.Common.{◌≡◌, ℕ, zero, suc, ◌+◌, ◌-◌, ◌<◌, ◌≤◌, Bool, true, false, cond, ◌&&◌, leb, List, [], ◌∷◌, length, get_or, Some, None, Err, sym, refl, ap, ◌∙◌, subst, arith}
 use Rattle.keys.specs.Laws.{KeyLaws}
 use Rattle.std.specs.List.{slice_get}
-use Rattle.std.proofs.lemmas.Option.{slice_get-get_or}
+use Rattle.std.proofs.lemmas.Option.{slice_get-get_or, none-some, same_Some}
 use Rattle.std.proofs.lemmas.Bool.{and_parts, leb-true, ne_eqb, true≢false, false≢true}
 use Rattle.panel.specs.declared.Refusal.TheVariants.{MemoryUnfit, TableFull}
 use Rattle.machine.specs.Machine.{Entry, Seat as Place}
@@ -26,7 +26,6 @@ use Rattle.rules.specs.declared.Phase.TheVariants.{Idle, Read, Swap, Climb, Pare
 use Rattle.rules.specs.declared.Plan.{Plan}
 use Rattle.rules.specs.declared.Plan.TheVariants.{Refuse, Quit, Finish, Settle, Close, Go, Make}
 use Rattle.rules.specs.declared.Seat.{Seat}
-use Rattle.rules.proofs.Naming.{some_is, none_some}
 use Rattle.theory.proofs.Ground.{Ground}
 use Rattle.theory.proofs.Lengths.{room_suffices_lem}
 use Rattle.theory.proofs.Sights.{Drafts, Holds, Unfit, looked_at, index_of}
@@ -39,7 +38,7 @@ use Rattle.theory.specs.Records.{Kept, is_up}
 -- A place inside of a list has something.
 nth_there : {A : Type 0} (xs : List A) (i : ℕ) → i < length xs → slice_get xs i ≡ None → ⊥
 nth_there [] i l e = omega (arith, l)
-nth_there (x ∷ xs) zero l e = none_some (sym e)
+nth_there (x ∷ xs) zero l e = none-some _ (sym e)
 nth_there (x ∷ xs) (suc i) l e = nth_there xs i (omega (arith, l)) e
 
 -- The cell that a phase looks at is there, and not past the end of the path.
@@ -78,24 +77,24 @@ module _ {K : Type 0} (same : K → K → Bool) (hash : K → ℕ) (laws : KeyLa
     -- What a cell holds is one main.
     one_main : {i c n : ℕ} {y : Main} (r : Readable same hash s g.written.cells k i c) → Holds same hash s.memory c n y → r.main ≡ y
     one_main {n} {y} r h =
-        some_is r.main y (sym r.holds.main ∙ ap (main_at s.memory.mains) (some_is r.number n (sym r.holds.word ∙ h.word)) ∙ h.main)
+        same_Some r.main y (sym r.holds.main ∙ ap (main_at s.memory.mains) (same_Some r.number n (sym r.holds.word ∙ h.word)) ∙ h.main)
 
     -- The cell looked at can be read.
     readable_there : (c : ℕ) → looked_at (seat_of s t).phase (seat_of s t) ≡ Some c → Readable same hash s g.written.cells k (index_of (seat_of s t).phase (seat_of s t)) c
     readable_there c e =
         let kept = (g.steady.calls t o).1 in
         let at = looked_at_lem (seat_of s t) kept (seat_of s t).phase o kept.above in
-        subst (Readable same hash s g.written.cells k (index_of (seat_of s t).phase (seat_of s t))) (some_is _ c (sym at.0 ∙ e))
+        subst (Readable same hash s g.written.cells k (index_of (seat_of s t).phase (seat_of s t))) (same_Some _ c (sym at.0 ∙ e))
         (readable same hash laws g t k o key (index_of (seat_of s t).phase (seat_of s t)) at.1)
 
     -- The memory lacks nothing.
     pub fits : Unfit same hash s.memory (seat_of s t) k → ⊥
     fits (Unfit.nowhere e) =
-        let kept = (g.steady.calls t o).1 in none_some (sym e ∙ (looked_at_lem (seat_of s t) kept (seat_of s t).phase o kept.above).0)
-    fits (Unfit.outside c e w) = none_some (sym w ∙ (readable_there c e).holds.word)
+        let kept = (g.steady.calls t o).1 in none-some _ (sym e ∙ (looked_at_lem (seat_of s t) kept (seat_of s t).phase o kept.above).0)
+    fits (Unfit.outside c e w) = none-some _ (sym w ∙ (readable_there c e).holds.word)
     fits (Unfit.vacant c n e w v) =
         let r = readable_there c e in
-        none_some (sym v ∙ ap (main_at s.memory.mains) (some_is n r.number (sym w ∙ r.holds.word)) ∙ r.holds.main)
+        none-some _ (sym v ∙ ap (main_at s.memory.mains) (same_Some n r.number (sym w ∙ r.holds.word)) ∙ r.holds.main)
     fits (Unfit.unsound c n y e h q) =
         let r = readable_there c e in
         true≢false (sym r.keeps ∙ ap (sound same hash s.memory.pairs (index_of (seat_of s t).phase (seat_of s t))) (one_main r h) ∙ q)

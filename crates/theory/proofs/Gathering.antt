@@ -4,12 +4,12 @@ use mathlib.Core.List.{Memᴰ}
 use mathlib.Core.Option.{none, some}
 use Rattle.std.specs.List.{slice_get, remove}
 use Rattle.std.proofs.lemmas.Bool.{and_parts, or_parts, both_ways, not-true}
+use Rattle.std.proofs.lemmas.Option.{none-some}
 use Rattle.machine.proofs.Laws.{Laws, holds, is_true}
 use Rattle.machine.proofs.Walk.{no_some}
 use Rattle.machine.specs.Machine.{gather}
 use Rattle.machine.specs.Tree.{In, nth as placed, NoTwice}
 use Rattle.machine.specs.Pairs.{find_pair}
-use Rattle.rules.proofs.Naming.{none_some}
 use Rattle.rules.specs.Memory.{Memory}
 use Rattle.rules.specs.Sound.{with_pair, pairs_at, among, alike}
 use Rattle.rules.specs.Turns.{place_of, later as further}
@@ -57,8 +57,8 @@ module _ {K : Type 0} (pairs : List (K × ℕ)) where
 
 -- Pairs that may be missing are all there.
 all_there : {K : Type 0} (o : Option (Pair K)) (os : Option (List (Pair K))) (ys : List (Pair K)) → with_pair o os ≡ Some ys → (x : Pair K) × (xs : List (Pair K)) × (o ≡ Some x) × (os ≡ Some xs) × (ys ≡ x ∷ xs)
-all_there None os ys e = absurd (none_some e)
-all_there (Some x) None ys e = absurd (none_some e)
+all_there None os ys e = absurd (none-some _ e)
+all_there (Some x) None ys e = absurd (none-some _ e)
 all_there (Some x) (Some xs) ys e = (x, xs, refl, refl, cc)
 
 -- Equal places with equal values.
@@ -102,13 +102,13 @@ module _ {K : Type 0} (same : K → K → Bool) (k : K) where
     where
       by : (b : Bool) (o : Option (ℕ × ℕ)) → cond b (Some (0, y.value)) (further o) ≡ None → (o ≡ None → find_pair same k (map shown_pair ys) ≡ none)
           → cond b (some (shown_pair y)) (find_pair same k (map shown_pair ys)) ≡ none
-      by true o f below = absurd (none_some (sym f))
+      by true o f below = absurd (none-some _ (sym f))
       by false None f below = below refl
-      by false (Some i) f below = absurd (none_some (sym f))
+      by false (Some i) f below = absurd (none-some _ (sym f))
 
   -- A key that has a place is that of the pair there.
   pub place_some : (ys : List (Pair K)) (i w : ℕ) → place_of same k ys ≡ Some (i, w) → (x : K × ℕ) × (placed (map shown_pair ys) i ≡ some x) × T (same x.0 k) × (x.1 ≡ w)
-  place_some [] i w e = absurd (none_some e)
+  place_some [] i w e = absurd (none-some _ e)
   place_some (y ∷ ys) i w e = by (same y.key k) refl (place_of same k ys) e (place_some ys)
     where
       by : (b : Bool) → same y.key k ≡ b → (o : Option (ℕ × ℕ)) → cond b (Some (0, y.value)) (further o) ≡ Some (i, w)
@@ -117,7 +117,7 @@ module _ {K : Type 0} (same : K → K → Bool) (k : K) where
       by true q o f below =
           let s = parts_are f in
           (shown_pair y, ap (λ (n : ℕ). placed (map shown_pair (y ∷ ys)) n) (sym s.0), holds (same y.key k) q, s.1)
-      by false q None f below = absurd (none_some f)
+      by false q None f below = absurd (none-some _ f)
       by false q (Some j) f below =
           let s = parts_are f in
           let a : suc j.0 ≡ i = omega (arith, s.0) in

@@ -2,10 +2,10 @@
 use Rattle.std.proofs.Common.{◌≡◌, ℕ, ◌<◌, ◌≤◌, Bool, false, List, length, get_or, Some, sym, ap, ◌∙◌, subst, arith}
 use Rattle.keys.specs.Laws.{KeyLaws}
 use Rattle.std.specs.List.{slice_get}
+use Rattle.std.proofs.lemmas.Option.{same_Some}
 use Rattle.machine.specs.Machine.{Entry, Main as Shape, Seat as Place, idle, HasPair, word, main as main_of}
 use Rattle.machine.specs.Machine.{PairInUse as UsedPair}
 use Rattle.mains.specs.declared.Main.{Main}
-use Rattle.rules.proofs.Naming.{some_is}
 use Rattle.rules.specs.InUse.{PairInUse}
 use Rattle.rules.specs.Memory.{State, main_at}
 use Rattle.rules.specs.Reached.{is_tomb}
@@ -46,8 +46,8 @@ module _ {K : Type 0} (same : K → K → Bool) (hash : K → ℕ) (laws : KeyLa
     -- The cell holds one main: what is known of its main is known of the one read.
     one_main : there.main ≡ y
     one_main =
-        some_is there.main y
-        (sym there.holds.main ∙ ap (λ (x : ℕ). main_at s.memory.mains x) (some_is there.number n (sym there.holds.word ∙ h.word)) ∙ h.main)
+        same_Some there.main y
+        (sym there.holds.main ∙ ap (λ (x : ℕ). main_at s.memory.mains x) (same_Some there.number n (sym there.holds.word ∙ h.word)) ∙ h.main)
 
     pub held_fine : Fine g.written.cells (length s.memory.pairs) y
     held_fine = subst (λ (x : Main). Fine g.written.cells (length s.memory.pairs) x) one_main there.fine

@@ -5,6 +5,7 @@ use Rattle.keys.specs.Laws.{KeyLaws}
 use Rattle.keys.specs.Routes.{chunk_at}
 use Rattle.std.specs.List.{slice_get}
 use Rattle.std.proofs.lemmas.Bool.{both_ways}
+use Rattle.std.proofs.lemmas.Option.{get_or_from_slice_get}
 use Rattle.machine.proofs.Laws.{laws_of}
 use Rattle.machine.proofs.Present.{present}
 use Rattle.machine.specs.Machine.{Seat as Place, Op, swap, word}
@@ -24,7 +25,7 @@ use Rattle.theory.proofs.Entries.{Grown}
 use Rattle.theory.proofs.Feeding.{feeds_pair}
 use Rattle.theory.proofs.Ground.{Ground}
 use Rattle.theory.proofs.Seating.{shown_state, shown_as, swapping, made_pair, last_of, above_of, news}
-use Rattle.theory.proofs.ShownMemory.{shows_memory, read_at}
+use Rattle.theory.proofs.ShownMemory.{shows_memory}
 use Rattle.theory.specs.Fed.{entries_of}
 use Rattle.theory.specs.Shown.{shown_mem}
 
@@ -83,7 +84,7 @@ module _ {K : Type 0} (same : K → K → Bool) (hash : K → ℕ) (laws : KeyLa
       ∙ (ap (λ (q : Phase). shown_as q x k) swaps
       ∙ ap (λ (p : Op K). swap p (last_of x) (above_of x) x.pending.expected x.pending.made (made_pair x.ask x.pending.pair) (news (new_cells x)))
       (ap (λ (q : Ask). swapping q x.pending.adds x.verdict.outcome k) a ∙ ap (λ (q : Bool). swapping (Put v) q x.verdict.outcome k) b)) in
-      let here = ap (word (shown_mem s.memory)) (read_at x.path.cells x.path.depth c 0 last) ∙ (shows_memory K).word_at s.memory c x.pending.expected holds in
+      let here = ap (word (shown_mem s.memory)) (get_or_from_slice_get x.path.cells x.path.depth c 0 last) ∙ (shows_memory K).word_at s.memory c x.pending.expected holds in
       let found = present same hash chunk_at (laws_of same hash laws) (entries_of calls) (shown_state s xs) t k v (last_of x) (above_of x) x.pending.expected x.pending.made _ _ g.inv g.lawful shown here in
       let told = (feeds_pair same hash laws).said_pairs calls k found.0 (g.inv.log.held k ∙ found.1) in
       (told.pair, told.inside, told.equal)

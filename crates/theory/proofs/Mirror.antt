@@ -4,13 +4,13 @@ use Rattle.keys.specs.Laws.{KeyLaws}
 use Rattle.keys.specs.Routes.{chunk_at}
 use Rattle.std.specs.List.{slice_get}
 use Rattle.std.proofs.lemmas.Bool.{and_parts, eqb-true, false≢true}
+use Rattle.std.proofs.lemmas.Option.{same_Some, get_or_from_slice_get}
 use Rattle.panel.specs.declared.Refusal.TheVariants.{NoSuchSeat, SeatIdle, CountersSpent, MemoryUnfit, TableFull}
 use Rattle.machine.specs.Machine.{Entry, Seat as Place}
 use Rattle.mains.specs.Nodes.{replaced}
 use Rattle.mains.specs.declared.Branch.TheVariants.{Pair as pair}
 use Rattle.mains.specs.declared.Main.{Main}
 use Rattle.mains.specs.declared.Main.TheVariants.{Node as node}
-use Rattle.rules.proofs.Naming.{some_is}
 use Rattle.rules.specs.Edits.{adds_pair, links_of, kept_node}
 use Rattle.rules.specs.Memory.{State, last_count}
 use Rattle.rules.specs.Perform.{Picks, Picked, Takes, enough, full, made_memory, pending_for, performed, turned, quitted, going, refused, worded}
@@ -32,7 +32,6 @@ use Rattle.theory.proofs.Entries.{Grown}
 use Rattle.theory.proofs.Ground.{Ground}
 use Rattle.theory.proofs.Preparing.{node_low}
 use Rattle.theory.proofs.Seating.{last_of}
-use Rattle.theory.proofs.ShownMemory.{read_at}
 use Rattle.theory.proofs.Sights.{Holds, Reads, Leaves, Sees, sees}
 use Rattle.theory.proofs.Stepping.{quits, lacks, finds, grows, entombs, loses, settles, finishes, climbs_out, climbs_on, parted, cleaned, leaves_out, leaves_on, leaves_back, misses, gives_up_lem, Left, in_seats, in_shown, first_above}
 use Rattle.theory.proofs.Taking.{drafts_turn, cleans_turn}
@@ -41,7 +40,7 @@ use Rattle.theory.specs.Records.{Phased, is_up}
 
 -- A cell that the path has is read off it.
 last_is : (x : Seat) (c : ℕ) → last_cell x ≡ Some c → c ≡ last_of x
-last_is x c e = sym (read_at x.path.cells x.path.depth c 0 e)
+last_is x c e = sym (get_or_from_slice_get x.path.cells x.path.depth c 0 e)
 
 module _ {K : Type 0} (same : K → K → Bool) (hash : K → ℕ) (laws : KeyLaws same hash) {f : Figures} {es : List (Entry K)} {s : State K} {xs : List (Place K)} (g : Ground same hash f es s xs) (calls : List (StampedCall K)) (t : ℕ) (picks : Picks) where
   abbrev x : Seat
@@ -59,7 +58,7 @@ module _ {K : Type 0} (same : K → K → Bool) (hash : K → ℕ) (laws : KeyLa
     -- Where a result is fixed, the call with it is one more.
     fixed : {z : State K} (r : Outcome) → ((at : ℕ) → Moved same hash s z xs calls (fixed_as s t k at r ∷ calls)) → (more : List (StampedCall K)) → Grown s t calls (Some r) more → Moved same hash s z xs calls more
     fixed {z} r w more (Grown.longer l at v e) =
-        subst (λ (j : K). Moved same hash s z xs calls (fixed_as s t j at r ∷ calls)) (some_is k l (sym key ∙ e)) (w at)
+        subst (λ (j : K). Moved same hash s z xs calls (fixed_as s t j at r ∷ calls)) (same_Some k l (sym key ∙ e)) (w at)
 
     phased : Phased x.phase (is_settled x)
     phased = (g.steady.calls t o).1.phased
@@ -100,7 +99,7 @@ module _ {K : Type 0} (same : K → K → Bool) (hash : K → ℕ) (laws : KeyLa
       where
         by : (b : Bool) → eqb x.path.depth 0 ≡ b → cond b None (slice_get x.path.cells (x.path.depth - 1)) ≡ Some c → c ≡ get_or x.path.cells (x.path.depth - 1) 0
         by true q e = let z = eqb-true x.path.depth 0 q in absurd (omega (arith, z, l))
-        by false q e = sym (read_at x.path.cells (x.path.depth - 1) c 0 e)
+        by false q e = sym (get_or_from_slice_get x.path.cells (x.path.depth - 1) c 0 e)
 
     -- A call leaves its last cell, and the memory is as told.
     leaving : (words : List ℕ) → 1 ≤ x.path.depth → Left same hash laws g t k o key calls (worded s.memory words) → (p : Plan) → Leaves same hash x p → Leads p words

@@ -4,14 +4,13 @@ use mathlib.Core.List.Memᴰ
 use mathlib.Core.List.{Memᴰ}
 use Rattle.std.specs.List.{slice_get}
 use Rattle.std.proofs.lemmas.Bool.{cases_eq, cond_both, false≢true}
+use Rattle.std.proofs.lemmas.Option.{none-some, same_Some, get_or_from_slice_get}
 use Rattle.mains.specs.declared.Main.{Main}
 use Rattle.rules.specs.InUse.{is_pending}
 use Rattle.rules.specs.Memory.{State}
 use Rattle.rules.specs.Seats.{seat_of, idle_seat, is_idle, last_cell, parent_cell}
 use Rattle.rules.specs.declared.Seat.{Seat}
-use Rattle.rules.proofs.Naming.{some_is, none_some}
 use Rattle.theory.proofs.ListPlaces.{each_set, set_here}
-use Rattle.theory.proofs.ShownMemory.{read_at}
 use Rattle.theory.proofs.Sights.{Holds}
 use Rattle.theory.proofs.Stocking.{Stock}
 use Rattle.theory.proofs.Writing.{Written, Owns, Fine, is_burying}
@@ -64,12 +63,12 @@ module _ {cells mains : List ℕ} {pairs : ℕ} where
 
   -- The last cell of a path and the one before it are cells of the path.
   pub last_owned : (x : Seat) (c : ℕ) → Owns cells mains pairs x → last_cell x ≡ Some c → Memᴰ c cells
-  last_owned x c o e = Memᴰ.cast (sym (read_at x.path.cells x.path.depth c 0 e)) (o.path x.path.depth (omega arith))
+  last_owned x c o e = Memᴰ.cast (sym (get_or_from_slice_get x.path.cells x.path.depth c 0 e)) (o.path x.path.depth (omega arith))
 
   pub parent_owned : (x : Seat) (c : ℕ) → Owns cells mains pairs x → parent_cell x ≡ Some c → Memᴰ c cells
   parent_owned x c o =
-      cond_both (eqb x.path.depth 0) None (slice_get x.path.cells (x.path.depth - 1)) (λ u. u ≡ Some c → Memᴰ c cells) (λ _ e. absurd (none_some e))
-      (λ _ e. Memᴰ.cast (sym (read_at x.path.cells (x.path.depth - 1) c 0 e)) (o.path (x.path.depth - 1) (omega arith)))
+      cond_both (eqb x.path.depth 0) None (slice_get x.path.cells (x.path.depth - 1)) (λ u. u ≡ Some c → Memᴰ c cells) (λ _ e. absurd (none-some _ e))
+      (λ _ e. Memᴰ.cast (sym (get_or_from_slice_get x.path.cells (x.path.depth - 1) c 0 e)) (o.path (x.path.depth - 1) (omega arith)))
 
 -- STATES
 
@@ -81,9 +80,9 @@ module _ {K : Type 0} {s : State K} (k : Written s) where
   pub read_written : (same : K → K → Bool) (hash : K → ℕ) (c n : ℕ) (y : Main) → Memᴰ c k.cells → Holds same hash s.memory c n y → Memᴰ n k.mains × Fine k.cells (length s.memory.pairs) y
   read_written same hash c n y m h =
       let w = k.held c m in
-      let i = Memᴰ.cast (some_is n w.0 (sym h.word ∙ w.1)) w.2 in
+      let i = Memᴰ.cast (same_Some n w.0 (sym h.word ∙ w.1)) w.2 in
       let x = k.there n i in
-      (i, subst (Fine k.cells (length s.memory.pairs)) (some_is x.0 y (sym x.1 ∙ h.main)) x.2)
+      (i, subst (Fine k.cells (length s.memory.pairs)) (same_Some x.0 y (sym x.1 ∙ h.main)) x.2)
 
   module _ (cells mains : List ℕ) where
     abbrev Own : Seat → Type 0

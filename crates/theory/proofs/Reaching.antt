@@ -5,6 +5,7 @@ use Rattle.keys.proofs.Chunks.{chunk_below}
 use Rattle.keys.specs.Routes.{chunk_at}
 use Rattle.std.specs.List.{slice_get}
 use Rattle.std.proofs.lemmas.Bool.{lt-ltb}
+use Rattle.std.proofs.lemmas.Option.{none-some}
 use Rattle.machine.proofs.Walk.{walk_back}
 use Rattle.machine.specs.Machine.{Branch as Slot, nothing, pair as paired, cell as celled, Main as Shape, main, view, face, spot, lone}
 use Rattle.machine.specs.Tree.{on, kid, into, nth as placed, walk as tree_walk}
@@ -14,7 +15,7 @@ use Rattle.mains.specs.declared.Branch.TheVariants.{Pair as pair, Cell as cell}
 use Rattle.mains.specs.declared.Main.{Main}
 use Rattle.mains.specs.declared.Main.TheVariants.{Node as node, Tomb as tomb, List as listing}
 use Rattle.mains.specs.declared.Node.{Node}
-use Rattle.rules.proofs.Naming.{then_some, none_some, sound_in_lem}
+use Rattle.rules.proofs.Naming.{then_some, sound_in_lem}
 use Rattle.rules.specs.Memory.{Memory, main_in, main_at}
 use Rattle.rules.specs.Sanity.{walk, cell_by, cell_below}
 use Rattle.rules.specs.Sound.{sound_in}
@@ -39,18 +40,18 @@ module _ {K : Type 0} (same : K → K → Bool) (hash : K → ℕ) (m : Memory K
 
   -- A cell below a main is named by a node at the chunk.
   below : (o : Option Main) (q c : ℕ) → cell_below same hash m o q ≡ Some c → (n : Node) × (o ≡ Some (node n)) × (branch_at n q ≡ Some (cell c))
-  below None q c e = absurd (none_some e)
-  below (Some (tomb p)) q c e = absurd (none_some e)
-  below (Some (listing l)) q c e = absurd (none_some e)
+  below None q c e = absurd (none-some _ e)
+  below (Some (tomb p)) q c e = absurd (none-some _ e)
+  below (Some (listing l)) q c e = absurd (none-some _ e)
   below (Some (node n)) q c e = (n, refl, by (branch_at n q) e)
     where
       test : (d : ℕ) (b : Bool) → cond b (Some d) None ≡ Some c → Some (cell d) ≡ Some (cell c)
       test d true e = cc
-      test d false e = absurd (none_some e)
+      test d false e = absurd (none-some _ e)
 
       by : (o : Option Branch) → cell_by same hash m o ≡ Some c → o ≡ Some (cell c)
-      by None e = absurd (none_some e)
-      by (Some (pair p)) e = absurd (none_some e)
+      by None e = absurd (none-some _ e)
+      by (Some (pair p)) e = absurd (none-some _ e)
       by (Some (cell d)) e = test d (ltb d (length m.words)) e
 
   leads : (h index c : ℕ) → walk same hash m h index ≡ Some c → Leads m h index c
@@ -59,7 +60,7 @@ module _ {K : Type 0} (same : K → K → Bool) (hash : K → ℕ) (m : Memory K
     where
       by : (b : Bool) → cond b (Some 0) None ≡ Some c → some 0 ≡ some c
       by true e = cc
-      by false e = absurd (none_some e)
+      by false e = absurd (none-some _ e)
   leads h (suc index) c e =
       let a = then_some (walk same hash m h index) (λ d. cell_below same hash m (sound_in same hash m index d) (chunk_at h index)) c e in
       let n = below (sound_in same hash m index a.0) (chunk_at h index) c a.2 in

@@ -6,6 +6,7 @@ use lib.ListN.{length-map}
 use Rattle.keys.specs.Laws.{KeyLaws}
 use Rattle.std.specs.List.{slice_get}
 use Rattle.std.proofs.lemmas.Bool.{and_parts, leb-true, false≢true}
+use Rattle.std.proofs.lemmas.Option.{get_or_from_slice_get}
 use Rattle.panel.specs.declared.Refusal.TheVariants.{NoSuchSeat, SeatIdle, CountersSpent, MemoryUnfit}
 use Rattle.machine.specs.Machine.{Entry, Seat as Place}
 use Rattle.mains.specs.declared.Main.{Main}
@@ -27,7 +28,7 @@ use Rattle.rules.specs.declared.Phase.TheVariants.{Idle, Read, Swap, Climb, Pare
 use Rattle.rules.specs.declared.Plan.{Plan}
 use Rattle.rules.specs.declared.Seat.{Seat}
 use Rattle.rules.proofs.Counting.{counted}
-use Rattle.theory.proofs.Claims.{seats_leave, in_map, first_or_rest, read_there, in_swap, below_root, cells_by, mains_by, pairs_by, plain_cells, plain_mains, plain_pairs, pairs_length, seat_cells, seat_mains}
+use Rattle.theory.proofs.Claims.{seats_leave, in_map, first_or_rest, in_swap, below_root, cells_by, mains_by, pairs_by, plain_cells, plain_mains, plain_pairs, pairs_length, seat_cells, seat_mains}
 use Rattle.theory.proofs.Fitting.{draft_links, fits, pair_there, Allowed, allowed}
 use Rattle.theory.proofs.Ground.{Ground, Within}
 use Rattle.theory.proofs.Sights.{Holds, Reads, Leaves, Sees, sees, looked_at}
@@ -131,7 +132,7 @@ module _ {K : Type 0} (same : K → K → Bool) (hash : K → ℕ) (laws : KeyLa
   held = map (λ c. get_or s.memory.words c 0) cells.them
 
   in_held : (c n : ℕ) → Memᴰ c cells.them → slice_get s.memory.words c ≡ Some n → Memᴰ n held
-  in_held c n m e = in_map (λ d. get_or s.memory.words d 0) c n cells.them (read_there s.memory.words c n e) m
+  in_held c n m e = in_map (λ d. get_or s.memory.words d 0) c n cells.them (get_or_from_slice_get s.memory.words c n 0 e) m
 
   -- A pending swap claims its two mains.
   main_pending : (t n : ℕ) → is_pending (seat_of s t).phase ≡ true → Memᴰ n ((seat_of s t).pending.expected ∷ (seat_of s t).pending.made ∷ []) → Somewhere n held (mains_by s.memory.words)
@@ -150,7 +151,7 @@ module _ {K : Type 0} (same : K → K → Bool) (hash : K → ℕ) (laws : KeyLa
     where
       by : (c ≡ 0) ⊎ Memᴰ c (below_root (seat_of s t)) → Somewhere n held (mains_by s.memory.words)
       by (inl e) = inl (in_held 0 n root_reached (subst (λ d. slice_get s.memory.words d ≡ Some n) e h))
-      by (inr k) = inr (t, seated t o, Memᴰ.append_left _ (in_map (λ d. get_or s.memory.words d 0) c n _ (read_there s.memory.words c n h) k))
+      by (inr k) = inr (t, seated t o, Memᴰ.append_left _ (in_map (λ d. get_or s.memory.words d 0) c n _ (get_or_from_slice_get s.memory.words c n 0 h) k))
 
   pair_somewhere : (p : ℕ) → PairInUse same hash s p → Somewhere p pairs.them pairs_by
   pair_somewhere p (PairInUse.reached r) = inl (pairs.all p r)

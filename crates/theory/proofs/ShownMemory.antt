@@ -5,6 +5,8 @@ use lib.ListN.{length-map}
 use lib.Seq.{map-set, take-set-lt, take-set-le, set_out}
 use Rattle.std.specs.List.{slice_get}
 use Rattle.std.proofs.lemmas.Bool.{cases_lt, cond_both, ltb-true, ltb-false}
+use Rattle.std.proofs.lemmas.Option.{none-some, get_or_from_slice_get}
+use Rattle.machine.proofs.Walk.{no_some}
 use Rattle.machine.specs.Machine.{Branch as Slot, Main as Shape, node, tomb, many, main}
 use Rattle.machine.specs.Tree.{nth as placed}
 use Rattle.mains.specs.Lists.{listed}
@@ -15,21 +17,10 @@ use Rattle.mains.specs.declared.PairList.{PairList}
 use Rattle.rules.specs.Memory.{Memory, main_limit, main_at}
 use Rattle.theory.specs.Shown.{slots, shown_main, shown_pair, shown_mem, ShowsMemory}
 
-none_some : {A : Type 0} {x : A} → None ≡ Some x → ⊥
-none_some e = let z : ◌≡◌ {A = ℕ} 0 1 = cc in omega arith
-
-lacks_some : {A : Type 0} {x : A} → none ≡ some x → ⊥
-lacks_some e = let z : ◌≡◌ {A = ℕ} 0 1 = cc in omega arith
-
 some_none : {A : Type 0} {x : A} → Some x ≡ None → ⊥
 some_none e = let z : ◌≡◌ {A = ℕ} 0 1 = cc in omega arith
 
 -- What is at a place is read there, whatever stands in for a missing one.
-pub read_at : {A : Type 0} (xs : List A) (n : ℕ) (x d : A) → slice_get xs n ≡ Some x → get_or xs n d ≡ x
-read_at [] n x d e = absurd (none_some e)
-read_at (y ∷ xs) zero x d e = cc
-read_at (y ∷ xs) (suc n) x d e = read_at xs n x d e
-
 read_past : {A : Type 0} (xs : List A) (n : ℕ) (d : A) → slice_get xs n ≡ None → get_or xs n d ≡ d
 read_past [] n d e = refl
 read_past (y ∷ xs) zero d e = absurd (some_none e)
@@ -39,7 +30,7 @@ module _ {A B : Type 0} (f : A → B) where
   -- What is at a place below k is at the same place of the first k, each shown.
   front_at : (k : ℕ) (xs : List A) (n : ℕ) (x : A) (d : B) → n < k → slice_get xs n ≡ Some x → get_or (map f (take k xs)) n d ≡ f x
   front_at zero xs n x d l e = absurd (omega arith)
-  front_at (suc k) [] n x d l e = absurd (none_some e)
+  front_at (suc k) [] n x d l e = absurd (none-some _ e)
   front_at (suc k) (y ∷ xs) zero x d l e = let z : y ≡ x = cc in ap f z
   front_at (suc k) (y ∷ xs) (suc n) x d l e = front_at k xs n x d (omega arith) e
 
@@ -64,12 +55,12 @@ module _ {A B : Type 0} (f : A → B) where
 
   -- What is at a place shows there, and what shows at a place is there.
   place_at : (xs : List A) (n : ℕ) (x : A) → slice_get xs n ≡ Some x → placed (map f xs) n ≡ some (f x)
-  place_at [] n x e = absurd (none_some e)
+  place_at [] n x e = absurd (none-some _ e)
   place_at (y ∷ xs) zero x e = let z : y ≡ x = cc in ap (λ u. some (f u)) z
   place_at (y ∷ xs) (suc n) x e = place_at xs n x e
 
   place_from : (xs : List A) (n : ℕ) (y : B) → placed (map f xs) n ≡ some y → (x : A) × (slice_get xs n ≡ Some x) × (y ≡ f x)
-  place_from [] n y e = absurd (lacks_some e)
+  place_from [] n y e = absurd (no_some e)
   place_from (x ∷ xs) zero y e = (x, refl, cc)
   place_from (x ∷ xs) (suc n) y e = place_from xs n y e
 
@@ -81,7 +72,7 @@ module _ {A B : Type 0} (f : A → B) where
 -- A main that is inside the memory is at a place below the limit.
 pub inside : (xs : List Main) (n : ℕ) (x : Main) → main_at xs n ≡ Some x → (n < main_limit) × (slice_get xs n ≡ Some x)
 inside xs n x = cond_both (ltb n main_limit) (slice_get xs n) None (λ o. o ≡ Some x → (n < main_limit) × (slice_get xs n ≡ Some x))
-    (λ t e. (ltb-true n main_limit t, e)) (λ _ e. absurd (none_some e))
+    (λ t e. (ltb-true n main_limit t, e)) (λ _ e. absurd (none-some _ e))
 
 outside : (xs : List Main) (n : ℕ) → main_at xs n ≡ None → n < main_limit → slice_get xs n ≡ None
 outside xs n = cond_both (ltb n main_limit) (slice_get xs n) None (λ o. o ≡ None → n < main_limit → slice_get xs n ≡ None)
@@ -135,7 +126,7 @@ module _ {K : Type 0} (m : Memory K) (n : ℕ) where
 pub shows_memory : (K : Type 0) → ShowsMemory K
 shows_memory K =
     record {
-      word_at = λ m c n e. read_at m.words c n 0 e;
+      word_at = λ m c n e. get_or_from_slice_get m.words c n 0 e;
       word_past = λ m c e. read_past m.words c 0 e;
       main_at_lem = main_at_lem;
       main_past = main_past;

@@ -3,6 +3,7 @@ use Rattle.std.proofs.Common.{◌≡◌, ℕ, ◌-◌, ◌<◌, ◌≤◌, Bool,
 use Rattle.keys.specs.Routes.{chunk_at}
 use Rattle.std.specs.List.{slice_get}
 use Rattle.std.proofs.lemmas.Bool.{and_parts, leb-true, leb-false, ltb-true, ltb-false, eqb-true, eqb-false, true≢false, false≢true}
+use Rattle.std.proofs.lemmas.Option.{none-some}
 use Rattle.panel.specs.declared.Refusal.TheVariants.{MemoryUnfit, ListFull}
 use Rattle.mains.specs.Lists.{listed, unlisted}
 use Rattle.mains.specs.Nodes.{branch_at, removed, replaced}
@@ -132,9 +133,6 @@ module _ {K : Type 0} (same : K → K → Bool) (hash : K → ℕ) where
 
   -- THE PROOF, ALONG THE TREE OF THE RULES
 
-  none_some : {A B : Type 0} {a : A} → ◌≡◌ {A = Option A} None (Some a) → B
-  none_some e = let z : ◌≡◌ {A = ℕ} 0 1 = cc in absurd (omega arith)
-
   -- A test decides between two plans.
   choice : (P : Plan → Type 0) (b : Bool) (p q : Plan) → (b ≡ true → P p) → (b ≡ false → P q) → P (cond b p q)
   choice P true p q f g = f refl
@@ -192,7 +190,7 @@ module _ {K : Type 0} (same : K → K → Bool) (hash : K → ℕ) where
       -- The pairs of a sound list are there.
       listed_there : (o : Option (List (Pair K))) → all_alike same hash o ≡ true → o ≡ None → ⊥
       listed_there None t e = false≢true t
-      listed_there (Some ys) t e = none_some (sym e)
+      listed_there (Some ys) t e = absurd (none-some _ (sym e))
 
       at_list_lem : (l : PairList) → sound same hash m.pairs x.path.depth (listing l) ≡ true → (o : Option (List (Pair K))) → pairs_at m.pairs (listed l) ≡ o → Reads m x k n (listing l) (at_list same hash o x k n l)
       at_list_lem l s None h =

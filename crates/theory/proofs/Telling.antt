@@ -6,6 +6,7 @@ use Rattle.keys.proofs.Chunks.{prefix_by_chunks}
 use Rattle.keys.specs.Routes.{chunk_at, prefix_at}
 use Rattle.std.specs.List.{slice_get}
 use Rattle.std.proofs.lemmas.Bool.{both_ways, false≢true}
+use Rattle.std.proofs.lemmas.Option.{same_Some}
 use Rattle.machine.proofs.AtRest.{at_rest}
 use Rattle.machine.proofs.Chunk.{chunks}
 use Rattle.machine.proofs.Laws.{laws_of, is_true, holds}
@@ -18,7 +19,7 @@ use Rattle.mains.specs.declared.Main.{Main}
 use Rattle.mains.specs.declared.Main.TheVariants.{Node as node, Tomb as tomb, List as listing}
 use Rattle.rules.proofs.Counting.{counted}
 use Rattle.rules.proofs.Following.{followed}
-use Rattle.rules.proofs.Naming.{some_is, sound_in_lem}
+use Rattle.rules.proofs.Naming.{sound_in_lem}
 use Rattle.rules.specs.Memory.{State}
 use Rattle.rules.specs.Reached.{ReachedPair, ReachedTomb, StandsFor, HowMany, is_tomb}
 use Rattle.rules.specs.Theorem.{StampedCall, fed, Holds, SharedBy, Compact, AtRest}
@@ -95,7 +96,7 @@ module _ {K : Type 0} (same : K → K → Bool) (hash : K → ℕ) (laws : KeyLa
         many =
             record {
               them = list.0;
-              once = once_placed same hash laws Lies (λ p y z a b. some_is y z (sym a.1 ∙ b.1)) list.0 (fed same calls) list.1 ((feeds_pair same hash laws).unlike calls);
+              once = once_placed same hash laws Lies (λ p y z a b. same_Some y z (sym a.1 ∙ b.1)) list.0 (fed same calls) list.1 ((feeds_pair same hash laws).unlike calls);
               only = λ p m. (of_place Lies list.0 (fed same calls) list.1 p m).2.0;
               all = listed_at_lem;
               many = as_many Lies list.0 (fed same calls) list.1;

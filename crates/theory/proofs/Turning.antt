@@ -5,9 +5,9 @@ use mathlib.Core.Option.{none, some}
 use Rattle.keys.specs.Routes.{chunk_at}
 use Rattle.std.specs.List.{slice_get}
 use Rattle.std.proofs.lemmas.Bool.{cases_eq}
+use Rattle.std.proofs.lemmas.Option.{same_Some}
 use Rattle.machine.specs.Machine.{Seat as Place, cutting, climb, plain, gives, idle, read}
 use Rattle.machine.specs.Turn.{Turn, Turns, IsPlain, returns, again, dropped as dropped_to}
-use Rattle.rules.proofs.Naming.{some_is}
 use Rattle.rules.specs.Memory.{Memory, State}
 use Rattle.rules.specs.Perform.{seated}
 use Rattle.rules.specs.Seats.{seat_of, idle_seat, is_idle, dropped}
@@ -87,7 +87,7 @@ module _ {K : Type 0} (same : K → K → Bool) (hash : K → ℕ) where
 
         at_call : (p : ℕ) → (p ≡ t) ⊎ (p ≡ t → ⊥) → (l : K) → is_idle (seat_of z p).phase ≡ false → slice_get z.memory.keys p ≡ Some l → get_or (set xs t x) p idle ≡ shown_seat (seat_of z p) l
         at_call p (inl e) l i q =
-            let same_key : k ≡ l = some_is k l (sym own ∙ (ap (slice_get z.memory.keys) (sym e) ∙ q)) in
+            let same_key : k ≡ l = same_Some k l (sym own ∙ (ap (slice_get z.memory.keys) (sym e) ∙ q)) in
             shown_here p e ∙ (busy (ap (λ (u : Seat). is_idle u.phase) (sym (here p e)) ∙ i) ∙ (ap (shown_seat y) same_key ∙ ap (λ (u : Seat). shown_seat u l) (sym (here p e))))
         at_call p (inr ne) l i q =
             get_or-set_other xs t p x idle ne

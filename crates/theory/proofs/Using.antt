@@ -6,6 +6,7 @@ use Rattle.keys.specs.Laws.{KeyLaws}
 use Rattle.keys.specs.Routes.{chunk_at}
 use Rattle.std.specs.List.{slice_get}
 use Rattle.std.proofs.lemmas.Bool.{and_parts, leb-true, true≢false}
+use Rattle.std.proofs.lemmas.Option.{get_or_from_slice_get}
 use Rattle.machine.proofs.Inv.{At, SeatOK}
 use Rattle.machine.proofs.Walk.{root_is, walk_back}
 use Rattle.machine.specs.Machine.{Entry, Seat as Place, idle, path, IsTomb, HasPair, Expects, MakesMain, MakesPair, MakesCell, Main as Shape, word, view, main as main_of}
@@ -28,7 +29,7 @@ use Rattle.theory.proofs.Names.{pair_in_lem, names_pair, is_tomb_lem}
 use Rattle.theory.proofs.Passing.{path_at, on_path, cell_at, expects_at, makes_main, makes_cell, makes_pair_lem}
 use Rattle.theory.proofs.Reaching.{shows, named, shows_reach}
 use Rattle.theory.proofs.Seating.{shown_state, shown_seat}
-use Rattle.theory.proofs.ShownMemory.{shows_memory, read_at}
+use Rattle.theory.proofs.ShownMemory.{shows_memory}
 use Rattle.theory.proofs.Sights.{Holds}
 use Rattle.theory.proofs.Soundness.{nth_there, sound_node_lem, sound_list_lem, sound_tomb}
 use Rattle.theory.proofs.Writing.{Fine, NamesCell}
@@ -179,7 +180,7 @@ module _ {K : Type 0} (same : K → K → Bool) (hash : K → ℕ) (laws : KeyLa
       at_root : i ≡ 0 → Leads s.memory (hash k) i (get_or (seat_of s t).path.cells i 0)
       at_root q =
           subst (λ (j : ℕ). Leads s.memory (hash k) j (get_or (seat_of s t).path.cells j 0)) (sym q)
-          (subst (λ (c : ℕ). Leads s.memory (hash k) 0 c) (sym (read_at (seat_of s t).path.cells 0 0 0 kept.root)) (root_led (hash k)))
+          (subst (λ (c : ℕ). Leads s.memory (hash k) 0 c) (sym (get_or_from_slice_get (seat_of s t).path.cells 0 0 0 kept.root)) (root_led (hash k)))
 
       by : Dec (i ≡ 0) → At same hash chunk_at (shown_mem s.memory) k i (get_or (seat_of s t).path.cells i 0) → Readable same hash s g.written.cells k i (get_or (seat_of s t).path.cells i 0)
       by (yes q) a = read_led k i (get_or (seat_of s t).path.cells i 0) z (at_root q)

@@ -2,7 +2,7 @@
 use Rattle.std.proofs.Common.{◌≡◌, ℕ, ◌-◌, Bool, true, false, cond, ◌&&◌, eqb, ltb, leb, List, get_or, Some, None, Option, sym, refl, ap}
 use Rattle.keys.specs.Routes.{chunk_at}
 use Rattle.std.specs.List.{slice_get}
-use Rattle.std.proofs.lemmas.Bool.{and_parts, false≢true}
+use Rattle.std.proofs.lemmas.Bool.{and_parts, false≢true, cond_both}
 use Rattle.panel.specs.declared.Refusal.TheVariants.{MemoryUnfit, ListFull}
 use Rattle.mains.specs.Lists.{listed}
 use Rattle.mains.specs.Nodes.{branch_at}
@@ -124,27 +124,22 @@ module _ (P : Plan → Type 0) (k : Kinds P) where
     by_above (tomb p) x key n i c = by_up x
     by_above (listing l) x key n i c = by_up x
 
-    -- Where what was read keeps the rules, and where it does not.
-    by_sound : (b : Bool) (p : Plan) → (b ≡ true → P p) → (b ≡ false → P (Refuse MemoryUnfit)) → P (cond b p (Refuse MemoryUnfit))
-    by_sound true p f g = f refl
-    by_sound false p f g = g refl
-
     -- The plan of an open seat, given that a refusal has the property where there is a fault.
     pub by_decide : (phase : Phase) (seen : Seen) (x : Seat) (key : K) (m : Memory K) → is_idle phase ≡ false → (Fault same hash x key m phase seen → P (Refuse MemoryUnfit)) → P (decide same hash phase seen x key m)
     by_decide Idle (Saw n y) x key m o f = absurd (false≢true (sym o))
     by_decide Idle (Swapped b) x key m o f = absurd (false≢true (sym o))
     by_decide Read (Saw n y) x key m o f =
-        by_sound (sound same hash m.pairs x.path.depth y) _
+        cond_both (sound same hash m.pairs x.path.depth y) _ _ P
         (λ s. by_read y x key m n x.path.depth s (λ z p e b g. f (missing n p z (ap (Saw n) e) b g)))
         (λ s. f (unsound n y refl s))
     by_decide Read (Swapped b) x key m o f = f (unsuited refl)
     by_decide Swap (Saw n y) x key m o f = f (unsuited refl)
     by_decide Swap (Swapped b) x key m o f = by_swap b x
     by_decide Climb (Saw n y) x key m o f =
-        by_sound (sound same hash m.pairs x.path.depth y) _ (λ s. by_climbs y x) (λ s. f (unsound n y refl s))
+        cond_both (sound same hash m.pairs x.path.depth y) _ _ P (λ s. by_climbs y x) (λ s. f (unsound n y refl s))
     by_decide Climb (Swapped b) x key m o f = f (unsuited refl)
     by_decide Parent (Saw n y) x key m o f =
-        by_sound (sound same hash m.pairs (x.path.depth - 1) y) _
+        cond_both (sound same hash m.pairs (x.path.depth - 1) y) _ _ P
         (λ s. by_above y x key n (x.path.depth - 1) (get_or x.path.cells x.path.depth 0))
         (λ s. f (unsound n y refl s))
     by_decide Parent (Swapped b) x key m o f = f (unsuited refl)

@@ -1,9 +1,11 @@
 -- The chain of new cells that an edit makes: its links in a list, their places, and the cells as the machine has them.
 use Rattle.std.proofs.Common.{◌≡◌, ℕ, zero, suc, ◌+◌, ◌<◌, ◌≤◌, List, [], ◌∷◌, ◌++◌, map, length, take, set, replicate, Some, sym, refl, ap, ◌∙◌, subst, arith, length-set, take-take}
+use mathlib.Core.List.Memᴰ
 use mathlib.Core.List.{Memᴰ}
-use mathlib.Core.Option.{none, some}
+use mathlib.Core.Option.{some}
 use lib.Seq.{take-append_seam}
 use Rattle.std.specs.List.{slice_get}
+use Rattle.machine.proofs.Walk.{no_some}
 use Rattle.machine.specs.Tree.{nth as placed}
 use Rattle.mains.specs.declared.Main.{Main}
 use Rattle.rules.specs.Edits.{links_of, Link, linked, chain_for, places, with_cells, with_mains}
@@ -56,11 +58,6 @@ mains_filled mains (i ∷ is) = mains_filled _ is
 
 -- THE LINKS OF A CHAIN AND THE PLACES GIVEN
 
-pub in_map : (at : Link → ℕ) (is : List Link) (i : Link) → Memᴰ i is → Memᴰ (at i) (map at is)
-in_map at [] i m = elim m [ ]
-in_map at (j ∷ is) i (Memᴰ.head e) = Memᴰ.head (ap at e)
-in_map at (j ∷ is) i (Memᴰ.tail m) = Memᴰ.tail (in_map at is i m)
-
 -- Where no place is wanted, none is given.
 bare : (cells mains : List ℕ) → length cells ≡ 0 → length mains ≡ 0 → ([] ≡ cells) × ([] ≡ mains)
 bare [] [] c m = (refl, refl)
@@ -88,9 +85,6 @@ chain_places (Split f) p cells mains c m = linked_places f p (f.index + 1) cells
 
 -- THE NEW CELLS OF A CHAIN
 
-pub no_some : {A : Type 0} {x : A} → none ≡ some x → ⊥
-no_some e = let z : ◌≡◌ {A = ℕ} 0 1 = cc in omega arith
-
 -- A new cell is a link's.
 pub news_link : (is : List Link) (t d n : ℕ) → placed (news (places is)) t ≡ some (d, n) → (i : Link) × Memᴰ i is × (cell_of i ≡ d) × (number_of i ≡ n)
 news_link [] t d n e = absurd (no_some e)
@@ -101,7 +95,7 @@ news_link (i ∷ is) (suc t) d n e = let r = news_link is t d n e in (r.0, Mem�
 not_later : (i : Link) (is : List Link) (t d n : ℕ) → (Memᴰ (cell_of i) (map cell_of is) → ⊥) → cell_of i ≡ d → placed (news (places is)) t ≡ some (d, n) → ⊥
 not_later i is t d n f e h =
     let r = news_link is t d n h in
-    f (subst (λ (u : ℕ). Memᴰ u (map cell_of is)) (r.2 ∙ sym e) (in_map cell_of is r.0 r.1))
+    f (subst (λ (u : ℕ). Memᴰ u (map cell_of is)) (r.2 ∙ sym e) (Memᴰ.map cell_of r.1))
 
 pub news_once : (is : List Link) (t u d n x : ℕ) → Once (map cell_of is) → placed (news (places is)) t ≡ some (d, n) → placed (news (places is)) u ≡ some (d, x) → t ≡ u
 unfolding news_link

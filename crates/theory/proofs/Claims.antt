@@ -4,7 +4,7 @@ use mathlib.Core.List.Memᴰ
 use mathlib.Core.List.{Memᴰ}
 use lib.ListN.{length-map}
 use Rattle.std.specs.List.{slice_get}
-use Rattle.std.proofs.lemmas.Option.{slice_get-get_or, same_Some}
+use Rattle.std.proofs.lemmas.Option.{same_Some}
 use Rattle.std.proofs.lemmas.Bool.{cases_eq, cases_Bool, true≢false}
 use Rattle.rules.specs.Edits.{rest}
 use Rattle.rules.specs.InUse.{is_pending}
@@ -70,11 +70,6 @@ module _ {K : Type 0} (same : K → K → Bool) (hash : K → ℕ) (m : Memory K
       }
 
 -- LISTS
-
-pub in_map : {A B : Type 0} (f : A → B) (a : A) (b : B) (xs : List A) → f a ≡ b → Memᴰ a xs → Memᴰ b (map f xs)
-in_map f a b [] e m = elim m [ ]
-in_map f a b (x ∷ xs) e (Memᴰ.head h) = Memᴰ.head (sym e ∙ ap f h)
-in_map f a b (x ∷ xs) e (Memᴰ.tail m) = Memᴰ.tail (in_map f a b xs e m)
 
 -- What stands in the beginning of a list is its first, or is in the rest.
 pub first_or_rest : (c a n : ℕ) (xs : List ℕ) → slice_get xs 0 ≡ Some a → Memᴰ c (take n xs) → (c ≡ a) ⊎ Memᴰ c (rest (take n xs))

@@ -1,9 +1,10 @@
 -- The plain map of the rules, fed stamped calls, says the same as the machine's log of these calls.
-use Rattle.std.proofs.Common.{◌≡◌, ℕ, Bool, true, false, cond, List, [], ◌∷◌, Some, None, Option, sym, refl, ap, ◌∙◌, arith}
+use Rattle.std.proofs.Common.{◌≡◌, ℕ, Bool, true, false, cond, List, [], ◌∷◌, Some, None, Option, sym, refl, ap, ◌∙◌}
 use mathlib.Core.List.{Memᴰ}
 use mathlib.Core.Option.{Option as Maybe, none, some}
 use Rattle.std.proofs.lemmas.Bool.{both_ways, false≢true}
 use Rattle.keys.specs.Laws.{KeyLaws}
+use Rattle.machine.proofs.Walk.{no_some, some_is}
 use Rattle.machine.proofs.Worth.{replay_worth, plain_pair}
 use Rattle.machine.specs.Machine.{Result, value, replay}
 use Rattle.machine.specs.Pairs.{worth, after_pair, replay_pair, says_pair, PlainPair}
@@ -23,18 +24,12 @@ value_is : {a b : Maybe ℕ} → ◌≡◌ {A = Result} (value a) (value b) → 
 value_is e = cc
 
 -- Equal values that are there are equal numbers.
-some_is : {A : Type 0} {a b : A} → ◌≡◌ {A = Maybe A} (some a) (some b) → a ≡ b
-some_is e = cc
-
 -- No value is not a value.
-no_value : {A : Type 0} {v : A} → ◌≡◌ {A = Maybe A} none (some v) → ⊥
-no_value e = let z : ◌≡◌ {A = ℕ} 0 1 = cc in absurd (omega arith)
-
 -- The machine's words tell values apart.
 maybe_is : (a b : Option ℕ) → maybe a ≡ maybe b → a ≡ b
 maybe_is None None e = refl
-maybe_is None (Some v) e = absurd (no_value e)
-maybe_is (Some u) None e = absurd (no_value (sym e))
+maybe_is None (Some v) e = absurd (no_some e)
+maybe_is (Some u) None e = absurd (no_some (sym e))
 maybe_is (Some u) (Some v) e = ap Some (some_is e)
 
 module _ {K : Type 0} (same : K → K → Bool) (hash : K → ℕ) (laws : KeyLaws same hash) where
@@ -136,7 +131,7 @@ module _ {K : Type 0} (same : K → K → Bool) (hash : K → ℕ) (laws : KeyLa
   -- What is under a key is a pair of the map.
   finds : (k : K) (v : K × ℕ) (ys : List (Pair K)) → pair_in same k ys ≡ some v → PairUnder same ys k v
   unfolding pair_in
-  finds k v [] e = absurd (no_value e)
+  finds k v [] e = absurd (no_some e)
   finds k v (y ∷ ys) e = by (same y.key k) refl e (λ d. finds k v ys d)
     where
       on : PairUnder same ys k v → PairUnder same (y ∷ ys) k v
@@ -164,7 +159,7 @@ module _ {K : Type 0} (same : K → K → Bool) (hash : K → ℕ) (laws : KeyLa
   value_said calls k v e = by (replay_pair same (entries_of calls) k) refl (sym (replay_worth same (entries_of calls) k) ∙ e)
     where
       by : (o : Maybe (K × ℕ)) → replay_pair same (entries_of calls) k ≡ o → worth o ≡ some v → PairFor same (fed same calls) k v
-      by none q d = absurd (no_value d)
+      by none q d = absurd (no_some d)
       by (some x) q d =
           let y = said_pairs calls k x q in
           record { pair = y.pair; inside = y.inside; equal = y.equal; valued = ap (λ (u : K × ℕ). u.1) y.shown ∙ some_is d }

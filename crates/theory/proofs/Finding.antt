@@ -1,5 +1,5 @@
 -- What a read finds of a key by the rules, the machine finds.
-use Rattle.std.proofs.Common.{◌≡◌, ℕ, Bool, true, false, cond, List, [], ◌∷◌, map, Some, None, Option, sym, refl, ap, ◌∙◌, arith}
+use Rattle.std.proofs.Common.{◌≡◌, ℕ, Bool, true, false, cond, List, [], ◌∷◌, map, Some, None, Option, sym, refl, ap, ◌∙◌}
 use mathlib.Core.Option.{none, some}
 use Rattle.keys.proofs.Chunks.{chunk_below}
 use Rattle.keys.specs.Routes.{chunk_at}

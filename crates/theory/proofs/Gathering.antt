@@ -4,7 +4,7 @@ use mathlib.Core.List.{Memᴰ}
 use mathlib.Core.Option.{none, some}
 use Rattle.std.specs.List.{slice_get, remove}
 use Rattle.std.proofs.lemmas.Bool.{and_parts, or_parts, both_ways, not-true}
-use Rattle.std.proofs.lemmas.Option.{none-some}
+use Rattle.std.proofs.lemmas.Option.{none-some, some_pair_parts}
 use Rattle.machine.proofs.Laws.{Laws, holds, is_true}
 use Rattle.machine.proofs.Walk.{no_some}
 use Rattle.machine.specs.Machine.{gather}
@@ -61,10 +61,6 @@ all_there None os ys e = absurd (none-some _ e)
 all_there (Some x) None ys e = absurd (none-some _ e)
 all_there (Some x) (Some xs) ys e = (x, xs, refl, refl, cc)
 
--- Equal places with equal values.
-parts_are : {i j v w : ℕ} → ◌≡◌ {A = Option (ℕ × ℕ)} (Some (i, v)) (Some (j, w)) → (i ≡ j) × (v ≡ w)
-parts_are {i} {j} {v} {w} e = let s : ◌≡◌ {A = ℕ × ℕ} (i, v) (j, w) = cc in (ap (λ (u : ℕ × ℕ). u.0) s, ap (λ (u : ℕ × ℕ). u.1) s)
-
 -- The places of a list hold its pairs in the memory shown, if they are as they were.
 pub shown_gathers : {K : Type 0} (m z : Memory K) (ps : List ℕ) (ys : List (Pair K)) → pairs_at m.pairs ps ≡ Some ys
     → ((i : ℕ) → Memᴰ i ps → slice_get z.pairs i ≡ slice_get m.pairs i) → Gathers (shown_mem z).pairs ps (map shown_pair ys)
@@ -115,11 +111,11 @@ module _ {K : Type 0} (same : K → K → Bool) (k : K) where
           → ((j u : ℕ) → o ≡ Some (j, u) → (x : K × ℕ) × (placed (map shown_pair ys) j ≡ some x) × T (same x.0 k) × (x.1 ≡ u))
           → (x : K × ℕ) × (placed (map shown_pair (y ∷ ys)) i ≡ some x) × T (same x.0 k) × (x.1 ≡ w)
       by true q o f below =
-          let s = parts_are f in
+          let s = some_pair_parts _ _ _ _ f in
           (shown_pair y, ap (λ (n : ℕ). placed (map shown_pair (y ∷ ys)) n) (sym s.0), holds (same y.key k) q, s.1)
       by false q None f below = absurd (none-some _ f)
       by false q (Some j) f below =
-          let s = parts_are f in
+          let s = some_pair_parts _ _ _ _ f in
           let a : suc j.0 ≡ i = omega (arith, s.0) in
           let x = below j.0 j.1 refl in
           (x.0, ap (λ (n : ℕ). placed (map shown_pair (y ∷ ys)) n) (sym a) ∙ x.1, x.2, x.3 ∙ s.1)

@@ -4,7 +4,7 @@ use mathlib.Core.List.Memᴰ
 use mathlib.Core.List.{Memᴰ}
 use Rattle.keys.specs.Routes.{chunk_at}
 use Rattle.std.specs.List.{slice_get}
-use Rattle.std.proofs.lemmas.Bool.{true≢false, false≢true, and_parts, leb-true}
+use Rattle.std.proofs.lemmas.Bool.{true≢false, and_parts, leb-true}
 use Rattle.panel.specs.declared.Refusal.TheVariants.{MemoryUnfit, TableFull}
 use Rattle.mains.specs.Nodes.{empty_node}
 use Rattle.mains.specs.declared.Branch.TheVariants.{Pair as pair}
@@ -38,13 +38,10 @@ use Rattle.theory.proofs.Owning.{Trod, trod_root, trod_more, owns_walking, last_
 use Rattle.theory.proofs.ListPlaces.{Standing, stands_set}
 use Rattle.theory.proofs.Poising.{keeps_poised}
 use Rattle.theory.proofs.Sights.{Reads, Leaves, Sees}
-use Rattle.theory.proofs.Steady.{new_size}
+use Rattle.theory.proofs.Steady.{new_size, never}
 use Rattle.theory.proofs.Stocking.{Stock, main_from, stock_swap, stock_made, made_picked, pair_picked}
 use Rattle.theory.proofs.Writing.{Written, Poised, Owns, Fine, is_burying}
 use Rattle.theory.specs.Records.{Steady}
-
-never : {A : Type 0} → false ≡ true → A
-never e = absurd (false≢true e)
 
 -- The first of some cells, or the root if there is none.
 first_joined : (xs ys : List ℕ) → Memᴰ 0 ys → Memᴰ (first xs) (xs ++ ys)

@@ -1,13 +1,13 @@
 -- Where two memories hold the same, the same shows; and what a main names, it shows.
-use Rattle.std.proofs.Common.{◌≡◌, ℕ, List, [], ◌∷◌, Some, None, Option, sym, refl, ap, ◌∙◌, subst}
-use mathlib.Core.List.{Memᴰ}
+use Rattle.std.proofs.Common.{◌≡◌, ℕ, Some, None, Option, sym, refl, ap, ◌∙◌}
 use mathlib.Core.Option.{none, some}
 use Rattle.std.specs.List.{slice_get}
 use Rattle.machine.specs.Machine.{HasPair, word, main as main_of}
-use Rattle.machine.specs.Tree.{nth as placed, In, here, later}
+use Rattle.machine.specs.Tree.{nth as placed}
 use Rattle.mains.specs.declared.Main.{Main}
 use Rattle.mains.specs.declared.Main.TheVariants.{Node as node, Tomb as tomb, List as listing}
 use Rattle.rules.specs.Memory.{Memory, main_at}
+use Rattle.theory.proofs.Names.{mem_in}
 use Rattle.theory.proofs.Shown.{shows_edits}
 use Rattle.theory.proofs.ShownMemory.{shows_memory}
 use Rattle.theory.proofs.Writing.{Formed, NamesPair}
@@ -35,13 +35,8 @@ module _ {K : Type 0} (m z : Memory K) where
       let s = shows_memory K in
       agree (slice_get z.pairs p) (slice_get m.pairs p) (λ x. some (x.key, x.value)) none _ _ e (s.pair_at z p) (s.pair_past z p) (s.pair_at m p) (s.pair_past m p)
 
-pub in_from : (p : ℕ) (ps : List ℕ) → Memᴰ p ps → In p ps
-in_from p [] m = elim m [ ]
-in_from p (x ∷ ps) (Memᴰ.head e) = subst (λ (y : ℕ). In p (y ∷ ps)) e here
-in_from p (x ∷ ps) (Memᴰ.tail m) = later (in_from p ps m)
-
 -- A pair that a main names shows.
 pub names_shown : (y : Main) → Formed y → (p : ℕ) → NamesPair y p → HasPair (shown_main y) p
 names_shown (node n) w p b = (b.0, shows_edits.slot_any n w b.0 ∙ ap slot b.1)
 names_shown (tomb r) w p b = b
-names_shown (listing l) w p b = in_from p _ b
+names_shown (listing l) w p b = mem_in p _ b

@@ -1,8 +1,9 @@
 -- What the memory holds after a preparation: what is made stands in the places taken, and all else is as before.
-use Rattle.std.proofs.Common.{◌≡◌, ℕ, suc, ◌<◌, ◌≤◌, Bool, true, false, cond, ◌&&◌, ltb, leb, List, [], ◌∷◌, map, length, set, Some, None, Option, sym, refl, ap, ◌∙◌, subst, arith, length-set}
+use Rattle.std.proofs.Common.{◌≡◌, ℕ, suc, ◌<◌, Bool, true, false, cond, ◌&&◌, ltb, leb, List, [], ◌∷◌, map, length, set, Some, None, Option, sym, refl, ap, ◌∙◌, subst, arith, length-set}
+use mathlib.Core.List.Memᴰ
 use mathlib.Core.List.{Memᴰ}
 use Rattle.std.specs.List.{slice_get}
-use Rattle.std.proofs.lemmas.Bool.{and_parts, leb-true, lt-ltb, cond-true}
+use Rattle.std.proofs.lemmas.Bool.{and_parts, leb-true}
 use Rattle.mains.specs.declared.Main.{Main}
 use Rattle.rules.specs.Edits.{edited, makes_pair, links_of, Link, first, rest}
 use Rattle.rules.specs.Memory.{State, main_limit, main_at}
@@ -11,20 +12,14 @@ use Rattle.rules.specs.Reached.{Once}
 use Rattle.rules.specs.Seats.{seat_of}
 use Rattle.rules.specs.declared.Edit.{Edit}
 use Rattle.rules.specs.declared.Pair.{Pair}
-use Rattle.theory.proofs.Chained.{cell_of, number_of, filled_else, filled_at, cells_filled, mains_filled, in_map, chain_places}
+use Rattle.theory.proofs.Chained.{cell_of, number_of, filled_else, filled_at, cells_filled, mains_filled, chain_places}
+use Rattle.theory.proofs.Chaining.{first_in, rest_in}
 use Rattle.theory.proofs.Entries.{set_here, set_there}
+use Rattle.theory.proofs.Stocking.{main_from}
 
 -- PLACES TAKEN
 
--- The first of some places is one of them; the others are too, none twice, and not the first again.
-pub first_in : (xs : List ℕ) → 1 ≤ length xs → Memᴰ (first xs) xs
-first_in [] l = absurd (omega arith)
-first_in (x ∷ xs) l = Memᴰ.head refl
-
-rest_in : (xs : List ℕ) (x : ℕ) → Memᴰ x (rest xs) → Memᴰ x xs
-rest_in [] x m = m
-rest_in (y ∷ xs) x m = Memᴰ.tail m
-
+-- Where none of some places comes twice, the first is not among the others, and none of those comes twice.
 first_once : (xs : List ℕ) → Once xs → Memᴰ (first xs) (rest xs) → ⊥
 first_once [] o m = elim m [ ]
 first_once (x ∷ xs) o m = o.0 m
@@ -51,10 +46,6 @@ module _ {K : Type 0} (pairs : List (Pair K)) where
       subst (λ (c : Bool). slice_get (with_new pairs c o v p) p ≡ Some (record { key = key; value = v })) (sym e)
       (subst (λ (u : Option K). slice_get (with_new pairs true u v p) p ≡ Some (record { key = key; value = v })) (sym f)
       (set_here pairs p (record { key = key; value = v }) l))
-
--- A main below the limit is inside the memory.
-main_inside : (mains : List Main) (n : ℕ) (x : Main) → n < main_limit → slice_get mains n ≡ Some x → main_at mains n ≡ Some x
-main_inside mains n x l e = cond-true (ltb n main_limit) (slice_get mains n) None (lt-ltb n main_limit l) ∙ e
 
 -- THE MEMORY MADE
 
@@ -98,13 +89,13 @@ module _ {K : Type 0} (same : K → K → Bool) (hash : K → ℕ) {s : State K}
   mains_of_chain = (chain_places edit (first picks.pairs) picks.cells (rest picks.mains) cells_taken rest_taken).1
 
   pub link_cell : (i : Link) → Memᴰ i (chain_in edit picks) → Memᴰ (cell_of i) picks.cells
-  link_cell i m = subst (λ (xs : List ℕ). Memᴰ (cell_of i) xs) cells_of_chain (in_map cell_of (chain_in edit picks) i m)
+  link_cell i m = subst (λ (xs : List ℕ). Memᴰ (cell_of i) xs) cells_of_chain (Memᴰ.map cell_of m)
 
   number_in : (n : ℕ) → Memᴰ n (map number_of (chain_in edit picks)) → Memᴰ n (rest picks.mains)
   number_in n m = subst (λ (xs : List ℕ). Memᴰ n xs) mains_of_chain m
 
   pub link_number : (i : Link) → Memᴰ i (chain_in edit picks) → Memᴰ (number_of i) picks.mains
-  link_number i m = rest_in picks.mains (number_of i) (number_in (number_of i) (in_map number_of (chain_in edit picks) i m))
+  link_number i m = rest_in picks.mains (number_of i) (number_in (number_of i) (Memᴰ.map number_of m))
 
   pub cells_once : Once (map cell_of (chain_in edit picks))
   cells_once = subst Once (sym cells_of_chain) picked.cells.once
@@ -148,7 +139,7 @@ module _ {K : Type 0} (same : K → K → Bool) (hash : K → ℕ) {s : State K}
   pub main_made : main_at (made_memory s t edit picks).mains (first picks.mains) ≡ Some made_main
   main_made =
       let l = number_low (first picks.mains) main_taken in
-      main_inside (made_memory s t edit picks).mains (first picks.mains) made_main l.0
+      main_from (made_memory s t edit picks).mains (first picks.mains) made_main l.0
       (chain_else (first picks.mains) (first_once picks.mains picked.mains.once)
       ∙ set_here s.memory.mains (first picks.mains) made_main l.1)
 
@@ -166,7 +157,7 @@ module _ {K : Type 0} (same : K → K → Bool) (hash : K → ℕ) {s : State K}
 
   pub link_main_lem : (i : Link) → Memᴰ i (chain_in edit picks) → main_at (made_memory s t edit picks).mains (number_of i) ≡ Some i.holds
   link_main_lem i m =
-      main_inside (made_memory s t edit picks).mains (number_of i) i.holds (number_low (number_of i) (link_number i m)).0
+      main_from (made_memory s t edit picks).mains (number_of i) i.holds (number_low (number_of i) (link_number i m)).0
       (ap (λ (xs : List Main). slice_get xs (number_of i)) (mains_filled with_main (chain_in edit picks))
       ∙ filled_at number_of (λ i. i.holds) with_main (chain_in edit picks) i m numbers_once
       (λ n k. rw length-set (number_low n (rest_in picks.mains n (number_in n k))).1))

@@ -1,8 +1,8 @@
 -- What a main names, by the machine that shows it and by the rules.
-use Rattle.std.proofs.Common.{◌≡◌, ℕ, true, List, [], ◌∷◌, sym, refl, arith}
+use Rattle.std.proofs.Common.{◌≡◌, ℕ, true, List, [], ◌∷◌, sym, refl, subst, arith}
 use mathlib.Core.List.{Memᴰ}
 use Rattle.machine.specs.Machine.{IsTomb, HasPair}
-use Rattle.machine.specs.Tree.{In}
+use Rattle.machine.specs.Tree.{In, here, later}
 use Rattle.mains.proofs.Edits.{has_low}
 use Rattle.mains.proofs.Standing.{has_some}
 use Rattle.mains.specs.Lists.{listed}
@@ -30,10 +30,16 @@ pair_in_lem (node n) p w m = pair_listed p (branches_to n 32) (chunk_in n (pair 
 pair_in_lem (tomb r) p w m = Memᴰ.head (sym m)
 pair_in_lem (listing l) p w m = m
 
+-- What is in a list by the machine is in it, and the other way round.
 in_mem : {A : Type 0} (x : A) (xs : List A) → In x xs → Memᴰ x xs
 in_mem x [] m = elim m [ ]
 in_mem x (y ∷ xs) (In.here) = Memᴰ.head refl
 in_mem x (y ∷ xs) (In.later m) = Memᴰ.tail (in_mem x xs m)
+
+pub mem_in : {A : Type 0} (x : A) (xs : List A) → Memᴰ x xs → In x xs
+mem_in x [] m = elim m [ ]
+mem_in x (y ∷ xs) (Memᴰ.head e) = subst (λ z. In x (z ∷ xs)) e here
+mem_in x (y ∷ xs) (Memᴰ.tail m) = later (mem_in x xs m)
 
 -- A pair that the main shown names, it names.
 pub names_pair : (x : Main) (p : ℕ) → HasPair (shown_main x) p → NamesPair x p

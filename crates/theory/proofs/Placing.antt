@@ -6,7 +6,6 @@ use Rattle.keys.specs.Routes.{chunk_at}
 use Rattle.std.specs.List.{slice_get}
 use Rattle.machine.proofs.Laws.{laws_of}
 use Rattle.machine.specs.Machine.{Entry, Seat as Place, HasPair, Main as Shape, word, main as main_of}
-use Rattle.machine.specs.Tree.{In, here, later}
 use Rattle.mains.specs.Lists.{listed}
 use Rattle.mains.specs.Nodes.{branch_at}
 use Rattle.mains.specs.declared.Branch.{Branch}
@@ -21,6 +20,7 @@ use Rattle.rules.specs.declared.Figures.{Figures}
 use Rattle.rules.specs.declared.Pair.{Pair}
 use Rattle.theory.proofs.Ground.{Ground}
 use Rattle.theory.proofs.Homes.{Reaches, AtHome, at_home}
+use Rattle.theory.proofs.Names.{mem_in}
 use Rattle.theory.proofs.Shown.{shows_edits}
 use Rattle.theory.proofs.ShownMemory.{shows_memory}
 use Rattle.theory.proofs.Using.{reached_leads, pair_reached}
@@ -36,11 +36,6 @@ listed_pair p (cell c ∷ bs) m = Memᴰ.tail (listed_pair p bs m)
 pair_at : (n : Node) (p : ℕ) → Memᴰ p (pairs_of (node n)) → (q : ℕ) × (q < 32) × (branch_at n q ≡ Some (pair p))
 unfolding branches_of
 pair_at n p m = at_chunk n (pair p) 32 (listed_pair p (branches_to n 32) m)
-
-mem_in : {A : Type 0} (x : A) (xs : List A) → Memᴰ x xs → In x xs
-mem_in x [] m = elim m [ ]
-mem_in x (y ∷ xs) (Memᴰ.head e) = subst (λ z. In x (z ∷ xs)) e here
-mem_in x (y ∷ xs) (Memᴰ.tail m) = later (mem_in x xs m)
 
 -- A pair that a main names is named by the main shown.
 pub shown_has : (x : Main) (p : ℕ) → Memᴰ p (pairs_of x) → HasPair (shown_main x) p

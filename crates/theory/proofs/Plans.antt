@@ -1,8 +1,8 @@
 -- Which plans can follow in a phase, whatever is seen: each kind with what is known of the seat then.
-use Rattle.std.proofs.Common.{◌≡◌, ℕ, ◌-◌, ◌≤◌, Bool, true, false, cond, ◌&&◌, eqb, ltb, leb, List, get_or, Some, None, Ok, Err, Option, Result, refl}
+use Rattle.std.proofs.Common.{◌≡◌, ℕ, ◌-◌, ◌≤◌, Bool, true, false, ◌&&◌, eqb, ltb, leb, List, get_or, Some, None, Ok, Err, Option, Result}
 use Rattle.keys.specs.Routes.{chunk_at}
 use Rattle.std.specs.List.{slice_get}
-use Rattle.std.proofs.lemmas.Bool.{and_parts, leb-true, leb-false, ltb-true, true≢false}
+use Rattle.std.proofs.lemmas.Bool.{and_parts, leb-true, leb-false, ltb-true, true≢false, cond_both}
 use Rattle.panel.specs.declared.Refusal.{Refusal}
 use Rattle.panel.specs.declared.Refusal.TheVariants.{ListFull}
 use Rattle.mains.specs.Lists.{listed}
@@ -52,10 +52,6 @@ pub data Follows (x : Seat) : Phase → Plan → Type 0 where
 -- READ
 
 module _ (x : Seat) where
-  either : {phase : Phase} (b : Bool) (p q : Plan) → (b ≡ true → Follows x phase p) → (b ≡ false → Follows x phase q) → Follows x phase (cond b p q)
-  either true p q k l = k refl
-  either false p q k l = l refl
-
   at_nothing_lem : (ask : Ask) (n : ℕ) (y : Node) (q : ℕ) → Follows x Read (at_nothing ask n y q)
   at_nothing_lem Get n y q = Follows.answers
   at_nothing_lem (Put v) n y q = Follows.prepares
@@ -73,7 +69,7 @@ module _ (x : Seat) where
 
   not_listed_lem : (ask : Ask) (n : ℕ) (l : PairList) → Follows x Read (not_listed ask n l)
   not_listed_lem Get n l = Follows.answers
-  not_listed_lem (Put v) n l = either (leb 32 l.count) _ _ (λ e. Follows.meets_full) (λ e. Follows.prepares)
+  not_listed_lem (Put v) n l = cond_both (leb 32 l.count) _ _ (Follows x _) (λ e. Follows.meets_full) (λ e. Follows.prepares)
   not_listed_lem Cut n l = Follows.answers
 
   listed_at_lem : (ask : Ask) (n : ℕ) (l : PairList) (i v : ℕ) → Follows x Read (listed_at ask n l i v)
@@ -89,33 +85,33 @@ module _ (x : Seat) where
 
   climbs_up : {phase : Phase} → (Phased phase (is_settled x) → is_settled x ≡ true) → Follows x phase (climbed x)
   climbs_up k =
-      either (leb x.path.depth 1) _ _ (λ e. Follows.closes k)
+      cond_both (leb x.path.depth 1) _ _ (Follows x _) (λ e. Follows.closes k)
       (λ e. Follows.drops k (leb-false x.path.depth 1 e))
 
   gives_up_lem : {phase : Phase} → Follows x phase (gives_up x)
-  gives_up_lem = either (is_settled x) _ _ (λ e. climbs_up (λ p. e)) (λ e. Follows.restarts (λ p. e))
+  gives_up_lem = cond_both (is_settled x) _ _ (Follows x _) (λ e. climbs_up (λ p. e)) (λ e. Follows.restarts (λ p. e))
 
   at_parent_lem : (o : Option Branch) (n : ℕ) (y : Node) (q i c : ℕ) → Follows x Parent (at_parent o x n y q i c)
   at_parent_lem None n y q i c = gives_up_lem
   at_parent_lem (Some (pair p)) n y q i c = gives_up_lem
-  at_parent_lem (Some (cell d)) n y q i c = either (eqb d c) _ _ (λ e. Follows.cleans) (λ e. gives_up_lem)
+  at_parent_lem (Some (cell d)) n y q i c = cond_both (eqb d c) _ _ (Follows x _) (λ e. Follows.cleans) (λ e. gives_up_lem)
 
   after_swap_lem : (b : Bool) → Follows x Swap (after_swap b x)
   after_swap_lem true =
-      either (is_cut x.ask && ltb 0 x.path.depth) _ _
+      cond_both (is_cut x.ask && ltb 0 x.path.depth) _ _ (Follows x _)
       (λ e. let k = and_parts (is_cut x.ask) _ e in Follows.settles k.0 (ltb-true 0 x.path.depth k.1))
       (λ e. Follows.finishes)
   after_swap_lem false = Follows.restarts (λ p. p)
 
   after_clean_lem : (b : Bool) → Follows x Clean (after_clean b x)
   after_clean_lem true = gives_up_lem
-  after_clean_lem false = either (is_settled x) _ _ (λ e. Follows.misses e) (λ e. Follows.restarts (λ p. e))
+  after_clean_lem false = cond_both (is_settled x) _ _ (Follows x _) (λ e. Follows.misses e) (λ e. Follows.restarts (λ p. e))
 
   module _ {K : Type 0} (same : K → K → Bool) (hash : K → ℕ) where
     at_pair_lem : (o : Option (Pair K)) (key : K) (n : ℕ) (y : Node) (q i p : ℕ) → Follows x Read (at_pair same hash o x key n y q i p)
     at_pair_lem None key n y q i p = Follows.refuses
     at_pair_lem (Some z) key n y q i p =
-        either (same z.key key) _ _ (λ e. at_equal_lem x.ask n y q i z.value) (λ e. at_other_lem x.ask n _)
+        cond_both (same z.key key) _ _ (Follows x _) (λ e. at_equal_lem x.ask n y q i z.value) (λ e. at_other_lem x.ask n _)
 
     at_branch_lem : (o : Option Branch) (key : K) (m : Memory K) (n : ℕ) (y : Node) (q i : ℕ) → x.path.depth ≤ 6 → Follows x Read (at_branch same hash o x key m n y q i)
     at_branch_lem None key m n y q i l = at_nothing_lem x.ask n y q
@@ -151,14 +147,14 @@ module _ (x : Seat) where
 
     decides : (phase : Phase) (seen : Seen) (key : K) (m : Memory K) → is_idle phase ≡ false → Follows x phase (decide same hash phase seen x key m)
     decides Idle seen key m o = absurd (true≢false o)
-    decides Read (Saw n y) key m o = either (sound same hash m.pairs x.path.depth y) _ _ (at_read y key m n) (λ e. Follows.refuses)
+    decides Read (Saw n y) key m o = cond_both (sound same hash m.pairs x.path.depth y) _ _ (Follows x _) (at_read y key m n) (λ e. Follows.refuses)
     decides Read (Swapped b) key m o = Follows.refuses
     decides Swap (Saw n y) key m o = Follows.refuses
     decides Swap (Swapped b) key m o = after_swap_lem b
-    decides Climb (Saw n y) key m o = either (sound same hash m.pairs x.path.depth y) _ _ (at_climb y m.pairs) (λ e. Follows.refuses)
+    decides Climb (Saw n y) key m o = cond_both (sound same hash m.pairs x.path.depth y) _ _ (Follows x _) (at_climb y m.pairs) (λ e. Follows.refuses)
     decides Climb (Swapped b) key m o = Follows.refuses
     decides Parent (Saw n y) key m o =
-        either (sound same hash m.pairs (x.path.depth - 1) y) _ _
+        cond_both (sound same hash m.pairs (x.path.depth - 1) y) _ _ (Follows x _)
         (λ e. above y key n (x.path.depth - 1) (get_or x.path.cells x.path.depth 0)) (λ e. Follows.refuses)
     decides Parent (Swapped b) key m o = Follows.refuses
     decides Clean (Saw n y) key m o = Follows.refuses

@@ -28,7 +28,7 @@ use Rattle.rules.specs.declared.Phase.TheVariants.{Idle, Read, Swap, Climb, Pare
 use Rattle.rules.specs.declared.Plan.{Plan}
 use Rattle.rules.specs.declared.Seat.{Seat}
 use Rattle.rules.proofs.Counting.{counted}
-use Rattle.theory.proofs.Claims.{seats_leave, in_map, first_or_rest, in_swap, below_root, cells_by, mains_by, pairs_by, plain_cells, plain_mains, plain_pairs, pairs_length, seat_cells, seat_mains}
+use Rattle.theory.proofs.Claims.{seats_leave, first_or_rest, in_swap, below_root, cells_by, mains_by, pairs_by, plain_cells, plain_mains, plain_pairs, pairs_length, seat_cells, seat_mains}
 use Rattle.theory.proofs.Fitting.{draft_links, fits, pair_there, Allowed, allowed}
 use Rattle.theory.proofs.Ground.{Ground, Within}
 use Rattle.theory.proofs.Sights.{Holds, Reads, Leaves, Sees, sees, looked_at}
@@ -125,14 +125,14 @@ module _ {K : Type 0} (same : K → K → Bool) (hash : K → ℕ) (laws : KeyLa
       by (inl e) = inl (subst (λ d. Memᴰ d cells.them) (sym e) root_reached)
       by (inr k) = inr (t, seated t o, Memᴰ.append_left _ k)
   cell_somewhere c (CellInUse.made t e k m i) =
-      inr (t, seated t (ap is_idle e), Memᴰ.append_right (below_root (seat_of s t)) (in_map (λ (k : NewCell). k.cell) k c _ i (in_swap_lem t k _ e m)))
+      inr (t, seated t (ap is_idle e), Memᴰ.append_right (below_root (seat_of s t)) (Memᴰ.cast (sym i) (Memᴰ.map (λ (k : NewCell). k.cell) (in_swap_lem t k _ e m))))
 
   -- What the reached cells hold.
   abbrev held : List ℕ
   held = map (λ c. get_or s.memory.words c 0) cells.them
 
   in_held : (c n : ℕ) → Memᴰ c cells.them → slice_get s.memory.words c ≡ Some n → Memᴰ n held
-  in_held c n m e = in_map (λ d. get_or s.memory.words d 0) c n cells.them (get_or_from_slice_get s.memory.words c n 0 e) m
+  in_held c n m e = Memᴰ.cast (sym (get_or_from_slice_get s.memory.words c n 0 e)) (Memᴰ.map (λ d. get_or s.memory.words d 0) m)
 
   -- A pending swap claims its two mains.
   main_pending : (t n : ℕ) → is_pending (seat_of s t).phase ≡ true → Memᴰ n ((seat_of s t).pending.expected ∷ (seat_of s t).pending.made ∷ []) → Somewhere n held (mains_by s.memory.words)
@@ -146,12 +146,12 @@ module _ {K : Type 0} (same : K → K → Bool) (hash : K → ℕ) (laws : KeyLa
   main_somewhere n (MainInUse.expected t e i) = main_pending t n e (Memᴰ.head (sym i))
   main_somewhere n (MainInUse.made t e i) = main_pending t n e (Memᴰ.tail (Memᴰ.head (sym i)))
   main_somewhere n (MainInUse.held t e k m i) =
-      inr (t, seated t (ap is_idle e), Memᴰ.append_right (map (λ c. get_or s.memory.words c 0) (below_root (seat_of s t))) (Memᴰ.append_left _ (in_map (λ (k : NewCell). k.main) k n _ i (in_swap_lem t k _ e m))))
+      inr (t, seated t (ap is_idle e), Memᴰ.append_right (map (λ c. get_or s.memory.words c 0) (below_root (seat_of s t))) (Memᴰ.append_left _ (Memᴰ.cast (sym i) (Memᴰ.map (λ (k : NewCell). k.main) (in_swap_lem t k _ e m)))))
   main_somewhere n (MainInUse.entombing t c o m h x a b) = by (on_path t c o m)
     where
       by : (c ≡ 0) ⊎ Memᴰ c (below_root (seat_of s t)) → Somewhere n held (mains_by s.memory.words)
       by (inl e) = inl (in_held 0 n root_reached (subst (λ d. slice_get s.memory.words d ≡ Some n) e h))
-      by (inr k) = inr (t, seated t o, Memᴰ.append_left _ (in_map (λ d. get_or s.memory.words d 0) c n _ (get_or_from_slice_get s.memory.words c n 0 h) k))
+      by (inr k) = inr (t, seated t o, Memᴰ.append_left _ (Memᴰ.cast (sym (get_or_from_slice_get s.memory.words c n 0 h)) (Memᴰ.map (λ d. get_or s.memory.words d 0) k)))
 
   pair_somewhere : (p : ℕ) → PairInUse same hash s p → Somewhere p pairs.them pairs_by
   pair_somewhere p (PairInUse.reached r) = inl (pairs.all p r)

@@ -17,13 +17,10 @@ use Rattle.mains.specs.declared.PairList.{PairList}
 use Rattle.rules.specs.Memory.{Memory, main_limit, main_at}
 use Rattle.theory.specs.Shown.{slots, shown_main, shown_pair, shown_mem, ShowsMemory}
 
-some_none : {A : Type 0} {x : A} → Some x ≡ None → ⊥
-some_none e = let z : ◌≡◌ {A = ℕ} 0 1 = cc in omega arith
-
 -- What is at a place is read there, whatever stands in for a missing one.
 read_past : {A : Type 0} (xs : List A) (n : ℕ) (d : A) → slice_get xs n ≡ None → get_or xs n d ≡ d
 read_past [] n d e = refl
-read_past (y ∷ xs) zero d e = absurd (some_none e)
+read_past (y ∷ xs) zero d e = absurd (none-some _ (sym e))
 read_past (y ∷ xs) (suc n) d e = read_past xs n d e
 
 module _ {A B : Type 0} (f : A → B) where
@@ -37,7 +34,7 @@ module _ {A B : Type 0} (f : A → B) where
   front_past : (k : ℕ) (xs : List A) (n : ℕ) (d : B) → (n < k → slice_get xs n ≡ None) → get_or (map f (take k xs)) n d ≡ d
   front_past zero xs n d h = refl
   front_past (suc k) [] n d h = refl
-  front_past (suc k) (y ∷ xs) zero d h = absurd (some_none (h (omega arith)))
+  front_past (suc k) (y ∷ xs) zero d h = absurd (none-some _ (sym (h (omega arith))))
   front_past (suc k) (y ∷ xs) (suc n) d h = front_past k xs n d (λ l. h (omega arith))
 
   length_front : (k : ℕ) (xs : List A) → length (map f (take k xs)) ≤ k
@@ -66,7 +63,7 @@ module _ {A B : Type 0} (f : A → B) where
 
   place_past : (xs : List A) (n : ℕ) → slice_get xs n ≡ None → placed (map f xs) n ≡ none
   place_past [] n e = refl
-  place_past (x ∷ xs) zero e = absurd (some_none e)
+  place_past (x ∷ xs) zero e = absurd (none-some _ (sym e))
   place_past (x ∷ xs) (suc n) e = place_past xs n e
 
 -- A main that is inside the memory is at a place below the limit.

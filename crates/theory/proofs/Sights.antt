@@ -2,7 +2,7 @@
 use Rattle.std.proofs.Common.{◌≡◌, ℕ, ◌-◌, ◌<◌, ◌≤◌, Bool, true, false, cond, ◌&&◌, eqb, ltb, leb, ◌⊎◌, List, get_or, set, Some, None, Ok, Option, sym, refl, ap, ◌∙◌, subst, inl, inr, arith}
 use Rattle.keys.specs.Routes.{chunk_at}
 use Rattle.std.specs.List.{slice_get}
-use Rattle.std.proofs.lemmas.Bool.{and_parts, leb-true, leb-false, ltb-true, ltb-false, eqb-true, eqb-false, true≢false, false≢true}
+use Rattle.std.proofs.lemmas.Bool.{and_parts, leb-true, leb-false, ltb-true, ltb-false, eqb-true, eqb-false, true≢false, false≢true, cond_both}
 use Rattle.std.proofs.lemmas.Option.{none-some}
 use Rattle.panel.specs.declared.Refusal.TheVariants.{MemoryUnfit, ListFull}
 use Rattle.mains.specs.Lists.{listed, unlisted}
@@ -134,10 +134,6 @@ module _ {K : Type 0} (same : K → K → Bool) (hash : K → ℕ) where
   -- THE PROOF, ALONG THE TREE OF THE RULES
 
   -- A test decides between two plans.
-  choice : (P : Plan → Type 0) (b : Bool) (p q : Plan) → (b ≡ true → P p) → (b ≡ false → P q) → P (cond b p q)
-  choice P true p q f g = f refl
-  choice P false p q f g = g refl
-
   module _ (m : Memory K) (x : Seat) (k : K) where
     -- The key's chunk at the last cell's index.
     abbrev q₀ : ℕ
@@ -163,7 +159,7 @@ module _ {K : Type 0} (same : K → K → Bool) (hash : K → ℕ) where
       at_pair_lem : (y : Node) (p : ℕ) → branch_at y q₀ ≡ Some (pair p) → (o : Option (Pair K)) → slice_get m.pairs p ≡ o → Reads m x k n (node y) (at_pair same hash o x k n y q₀ x.path.depth p)
       at_pair_lem y p b None h = Reads.missing y p b h
       at_pair_lem y p b (Some z) h =
-          choice (Reads m x k n (node y)) (same z.key k) _ _ (at_equal_lem y p z b h x.ask refl) (at_other_lem y p z b h x.ask refl)
+          cond_both (same z.key k) _ _ (Reads m x k n (node y)) (at_equal_lem y p z b h x.ask refl) (at_other_lem y p z b h x.ask refl)
 
       at_branch_lem : (y : Node) (o : Option Branch) → branch_at y q₀ ≡ o → Reads m x k n (node y) (at_branch same hash o x k m n y q₀ x.path.depth)
       at_branch_lem y None b = at_nothing_lem x.ask refl y b
@@ -174,7 +170,7 @@ module _ {K : Type 0} (same : K → K → Bool) (hash : K → ℕ) where
         not_listed_lem : (a : Ask) → x.ask ≡ a → place_of same k ys ≡ None → Reads m x k n (listing l) (not_listed a n l)
         not_listed_lem Get e t = Reads.lacks (ap is_put e) (Lacks.absent l ys h t)
         not_listed_lem (Put v) e t =
-            choice (Reads m x k n (listing l)) (leb 32 l.count) _ _ (λ u. Reads.full l (ap is_put e))
+            cond_both (leb 32 l.count) _ _ (Reads m x k n (listing l)) (λ u. Reads.full l (ap is_put e))
             (λ u. Reads.drafts (rw e (Drafts.appends v l ys h t (leb-false 32 l.count u))))
         not_listed_lem Cut e t = Reads.lacks (ap is_put e) (Lacks.absent l ys h t)
 
@@ -207,8 +203,8 @@ module _ {K : Type 0} (same : K → K → Bool) (hash : K → ℕ) where
 
     leaves : Leaves x (gives_up x)
     leaves =
-        choice (Leaves x) (is_settled x) _ _
-        (λ u. choice (Leaves x) (leb x.path.depth 1) _ _ (λ e. Leaves.closes u (leb-true x.path.depth 1 e)) (λ e. Leaves.drops u (leb-false x.path.depth 1 e)))
+        cond_both (is_settled x) _ _ (Leaves x)
+        (λ u. cond_both (leb x.path.depth 1) _ _ (Leaves x) (λ e. Leaves.closes u (leb-true x.path.depth 1 e)) (λ e. Leaves.drops u (leb-false x.path.depth 1 e)))
         (λ u. Leaves.restarts u)
 
     -- What is decided in the phase of the seat.
@@ -233,13 +229,13 @@ module _ {K : Type 0} (same : K → K → Bool) (hash : K → ℕ) where
       read_main e l n w (Some y) a =
           let h : Holds m c n y = record { word = w; main = a } in
           in_phase Read e (Saw n y) m.words
-          (choice (λ p. Sees m x k p m.words) (sound same hash m.pairs x.path.depth y) _ _
+          (cond_both (sound same hash m.pairs x.path.depth y) _ _ (λ p. Sees m x k p m.words)
           (λ t. Sees.reads e c n y l h t (at_read n y t)) (not_sound Read e c n y l h))
 
       -- A cell that holds no tomb is dropped.
       climb_on : x.phase ≡ Climb → last_cell x ≡ Some c → (n : ℕ) (y : Main) → Holds m c n y → is_tomb y ≡ false → Sees m x k (climbed x) m.words
       climb_on e l n y h t =
-          choice (λ p. Sees m x k p m.words) (leb x.path.depth 1) _ _
+          cond_both (leb x.path.depth 1) _ _ (λ p. Sees m x k p m.words)
           (λ u. Sees.climbs_close e c n y l h t (leb-true x.path.depth 1 u)) (λ u. Sees.climbs_drop e c n y l h t (leb-false x.path.depth 1 u))
 
       climb_plan : x.phase ≡ Climb → last_cell x ≡ Some c → (n : ℕ) (y : Main) → Holds m c n y → sound same hash m.pairs x.path.depth y ≡ true → Sees m x k (climbs y x) m.words
@@ -253,7 +249,7 @@ module _ {K : Type 0} (same : K → K → Bool) (hash : K → ℕ) where
       climb_main e l n w (Some y) a =
           let h : Holds m c n y = record { word = w; main = a } in
           in_phase Climb e (Saw n y) m.words
-          (choice (λ p. Sees m x k p m.words) (sound same hash m.pairs x.path.depth y) _ _
+          (cond_both (sound same hash m.pairs x.path.depth y) _ _ (λ p. Sees m x k p m.words)
           (climb_plan e l n y h) (not_sound Climb e c n y l h))
 
       at_parent_lem : x.phase ≡ Parent → parent_cell x ≡ Some c → (n : ℕ) (y : Node) → Holds m c n (node y) → sound same hash m.pairs (x.path.depth - 1) (node y) ≡ true → (o : Option Branch) → branch_at y (chunk_at (hash k) (x.path.depth - 1)) ≡ o
@@ -261,7 +257,7 @@ module _ {K : Type 0} (same : K → K → Bool) (hash : K → ℕ) where
       at_parent_lem e l n y h s None b = Sees.parts e c n (node y) l h (Unnamed.bare y b) leaves
       at_parent_lem e l n y h s (Some (pair p)) b = Sees.parts e c n (node y) l h (Unnamed.paired y p b) leaves
       at_parent_lem e l n y h s (Some (cell d)) b =
-          choice (λ p. Sees m x k p m.words) (eqb d (get_or x.path.cells x.path.depth 0)) _ _
+          cond_both (eqb d (get_or x.path.cells x.path.depth 0)) _ _ (λ p. Sees m x k p m.words)
           (λ u. Sees.contracts e c n y l h s (b ∙ ap (λ i. Some (cell i)) (eqb-true d _ u)))
           (λ u. Sees.parts e c n (node y) l h (Unnamed.other y d b (eqb-false d _ u)) leaves)
 
@@ -276,7 +272,7 @@ module _ {K : Type 0} (same : K → K → Bool) (hash : K → ℕ) where
       parent_main e l n w (Some y) a =
           let h : Holds m c n y = record { word = w; main = a } in
           in_phase Parent e (Saw n y) m.words
-          (choice (λ p. Sees m x k p m.words) (sound same hash m.pairs (x.path.depth - 1) y) _ _
+          (cond_both (sound same hash m.pairs (x.path.depth - 1) y) _ _ (λ p. Sees m x k p m.words)
           (parent_plan_lem e l n y h) (not_sound Parent e c n y l h))
 
       -- What a word that was read leads to.
@@ -310,7 +306,7 @@ module _ {K : Type 0} (same : K → K → Bool) (hash : K → ℕ) where
           by false u b v = Sees.finishes e c l h (inl u)
 
     clean_no : x.phase ≡ Clean → Sees m x k (missed x) m.words
-    clean_no e = choice (λ p. Sees m x k p m.words) (is_settled x) _ _ (λ u. Sees.misses e u) (λ u. Sees.gives_up_lem e u)
+    clean_no e = cond_both (is_settled x) _ _ (λ p. Sees m x k p m.words) (λ u. Sees.misses e u) (λ u. Sees.gives_up_lem e u)
 
     looks : (phase : Phase) → x.phase ≡ phase → is_idle phase ≡ false → (o : Option ℕ) → looked_at phase x ≡ o → Sees m x k (decided same hash (look phase x m).seen x k m) (look phase x m).words
     looks Idle e i o g = absurd (true≢false i)

@@ -6,7 +6,8 @@ use Rattle.keys.proofs.Chunks.{prefix_by_chunks, prefix_whole}
 use Rattle.keys.specs.Laws.{KeyLaws}
 use Rattle.keys.specs.Routes.{chunk_at}
 use Rattle.std.specs.List.{slice_get}
-use Rattle.std.proofs.lemmas.Bool.{and_from, or_from, or_left, or_right, not_from_false, le-leb, eq-eqb, ne_eqb}
+use Rattle.std.proofs.lemmas.Bool.{and_from, or_from, or_left, or_right, not_from_false, le-leb, eq-eqb, ne_eqb, false_from_ne_true}
+use Rattle.std.proofs.lemmas.Float.{T_from_true}
 use Rattle.machine.specs.Machine.{nothing, Taken, gather, join}
 use Rattle.machine.specs.Rules.{NodeRule}
 use Rattle.machine.specs.Tree.{Agree, In, here, later, NoTwice}
@@ -85,14 +86,6 @@ gathered {K} pairs (p ∷ ps) f =
       ap (λ o. join o (gather (map shown_pair pairs) ps)) ((shows_memory K).pair_at m p y.0 y.1) ∙ ap (λ (zs : List (K × ℕ)). shown_pair y.0 ∷ zs) r.2,
     )
 
-is_T : (b : Bool) → b ≡ true → T b
-is_T true e = tt
-is_T false e = let z : ◌≡◌ {A = ℕ} 0 1 = cc in absurd (omega arith)
-
-not_T : (b : Bool) → (b ≡ true → ⊥) → b ≡ false
-not_T true f = absurd (f refl)
-not_T false f = refl
-
 -- Hashes of 32 bits with the same seven chunks are the same.
 whole : (h g i : ℕ) → h < 2 ^ 32 → g < 2 ^ 32 → Agree chunk_at h i 7 → Agree chunk_at g i 7 → h ≡ g
 whole h g i hl gl a b = prefix_whole h g hl gl ((prefix_by_chunks h g 7).shared (λ j _ l. a j l ∙ sym (b j l)))
@@ -102,7 +95,7 @@ module _ {K : Type 0} (same : K → K → Bool) (hash : K → ℕ) (laws : KeyLa
   lacking : (k : K) (ys : List (Pair K)) → ((y : K × ℕ) → In y (map shown_pair ys) → T (same k y.0) → ⊥) → among same hash k ys ≡ false
   lacking k [] f = refl
   lacking k (y ∷ ys) f =
-      or_from (same y.key k) _ (not_T (same y.key k) (λ e. f (shown_pair y) here (is_T _ (laws.symmetric y.key k e))))
+      or_from (same y.key k) _ (false_from_ne_true (same y.key k) (λ e. f (shown_pair y) here (T_from_true _ (laws.symmetric y.key k e))))
       (lacking k ys (λ z i. f z (later i)))
 
   -- Pairs of which no key comes twice, and whose hashes agree in all chunks.

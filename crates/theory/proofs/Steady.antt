@@ -41,20 +41,21 @@ first_stays : (cells : List ℕ) (i c : ℕ) → slice_get (set cells (suc i) c)
 first_stays [] i c = refl
 first_stays (x ∷ cells) i c = refl
 
-not_up : {A : Type 0} → false ≡ true → A
-not_up e = absurd (false≢true e)
+-- A test that failed has not passed.
+pub never : {A : Type 0} → false ≡ true → A
+never e = absurd (false≢true e)
 
 -- A seat that goes on keeps the rules.
 go_kept : (x : Seat) (phase : Phase) (y : Seat) → Kept x → (is_up phase ≡ true → 1 ≤ x.path.depth) → Phased phase (is_settled x) → Follows x phase (Go y) → (is_idle y.phase ≡ false) × Kept y
 go_kept x phase y k up p (Follows.descends d l) =
-    (refl, record { slots = length-set x.path.cells (x.path.depth + 1) d ∙ k.slots; root = rw (plus_one x.path.depth) (first_stays x.path.cells x.path.depth d ∙ k.root); short = omega (arith, l); above = not_up; phased = p; cut = k.cut })
+    (refl, record { slots = length-set x.path.cells (x.path.depth + 1) d ∙ k.slots; root = rw (plus_one x.path.depth) (first_stays x.path.cells x.path.depth d ∙ k.root); short = omega (arith, l); above = never; phased = p; cut = k.cut })
   where
     plus_one : (n : ℕ) → n + 1 ≡ suc n
     plus_one n = omega arith
 go_kept x phase y k up p (Follows.meets_tomb q l) =
     (refl, record { slots = k.slots; root = k.root; short = k.short; above = λ e. l; phased = tt; cut = k.cut })
 go_kept x phase y k up p (Follows.restarts u) =
-    (refl, record { slots = refl; root = refl; short = omega arith; above = not_up; phased = u p; cut = k.cut })
+    (refl, record { slots = refl; root = refl; short = omega arith; above = never; phased = u p; cut = k.cut })
 go_kept x phase y k up p (Follows.drops u l) =
     (refl, record { slots = k.slots; root = k.root; short = let s = k.short in omega (arith, s); above = λ e. omega (arith, l); phased = u p; cut = k.cut })
 go_kept x phase y k up p (Follows.misses u) =
@@ -66,7 +67,7 @@ settle_kept x phase r n k (Follows.settles c l) =
 
 make_kept : (x : Seat) (phase after : Phase) (edit : Edit) (n : ℕ) (r : Outcome) (pending : Pending) → Kept x → (is_up phase ≡ true → 1 ≤ x.path.depth) → Phased phase (is_settled x) → Follows x phase (Make edit after n r) → (is_idle after ≡ false) × Kept (prepared (hoping x r) after pending)
 make_kept x phase after edit n r pending k up p Follows.prepares =
-    (refl, record { slots = k.slots; root = k.root; short = k.short; above = not_up; phased = p; cut = k.cut })
+    (refl, record { slots = k.slots; root = k.root; short = k.short; above = never; phased = p; cut = k.cut })
 make_kept x phase after edit n r pending k up p Follows.cleans =
     (refl, record { slots = k.slots; root = k.root; short = k.short; above = λ e. up refl; phased = tt; cut = k.cut })
 
@@ -261,7 +262,7 @@ module _ {K : Type 0} where
         size = record { words = refl; mains = refl; pairs = refl; keys = length-set s.memory.keys t key }
 
         fresh : Kept y
-        fresh = record { slots = refl; root = refl; short = omega arith; above = not_up; phased = refl; cut = not_up }
+        fresh = record { slots = refl; root = refl; short = omega arith; above = never; phased = refl; cut = never }
 
         by : (u : Bool) → no_seat s t ≡ u → (i n : Bool) → leb last_count s.table.openings ≡ n → (k : Bool) → (let left : Left K ℕ = cond u (refused_as s NoSuchSeat) (cond i (refused_as s SeatTaken) (cond n (refused_as s CountersSpent) (cond k (refused_as s MemoryUnfit) (record { state = with_call s t ask key; answer = Ok (suc s.table.openings) })))) in Steady f left.state)
         by true u i n l k = w

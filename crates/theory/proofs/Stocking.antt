@@ -10,6 +10,7 @@ use Rattle.rules.specs.Memory.{Memory, State, main_limit, main_at}
 use Rattle.rules.specs.Perform.{Picks, Picked, pairs_for, enough, worded, value_of, chain_in, made_memory}
 use Rattle.rules.specs.Seats.{seat_of}
 use Rattle.rules.specs.declared.Edit.{Edit}
+use Rattle.theory.proofs.Chained.{filled, cells_filled, mains_filled}
 use Rattle.theory.proofs.Chaining.{first_in, rest_in, first_or_rest, length_rest, chain_in_lem, chain_cell, chain_main}
 use Rattle.theory.proofs.Fineness.{fine_more}
 use Rattle.theory.proofs.ListPlaces.{Standing, set_stands, stands_set}
@@ -35,19 +36,14 @@ stock_swap {mains = mains} {m = m} c n i j k = record { root = k.root; held = λ
 -- A CHAIN
 
 module _ {A : Type 0} (at : Link → ℕ) (what : Link → A) where
-  -- The list with something of each link set at a place of it.
-  abbrev sets : List A → List Link → List A
-  sets xs [] = xs
-  sets xs (k ∷ ks) = sets (set xs (at k) (what k)) ks
-
   module _ (P : A → Type 0) where
-    -- If all of that has a property, each place that had something of the property has.
-    sets_stand : (ks : List Link) (xs : List A) → ((k : Link) → Memᴰ k ks → P (what k)) → (j : ℕ) → Standing P xs j → Standing P (sets xs ks) j
+    -- If all that is filled in has a property, each place that had something of the property has.
+    sets_stand : (ks : List Link) (xs : List A) → ((k : Link) → Memᴰ k ks → P (what k)) → (j : ℕ) → Standing P xs j → Standing P (filled at what xs ks) j
     sets_stand [] xs f j s = s
     sets_stand (k ∷ ks) xs f j s = sets_stand ks _ (λ i m. f i (Memᴰ.tail m)) j (set_stands P xs (at k) (what k) (f k (Memᴰ.head refl)) j s)
 
     -- And so has each place at which something was set.
-    stand_sets : (ks : List Link) (xs : List A) → ((k : Link) → Memᴰ k ks → P (what k)) → (k : Link) → Memᴰ k ks → at k < length xs → Standing P (sets xs ks) (at k)
+    stand_sets : (ks : List Link) (xs : List A) → ((k : Link) → Memᴰ k ks → P (what k)) → (k : Link) → Memᴰ k ks → at k < length xs → Standing P (filled at what xs ks) (at k)
     stand_sets [] xs f k m l = elim m [ ]
     stand_sets (i ∷ ks) xs f k (Memᴰ.head e) l =
         sets_stand ks _ (λ i m. f i (Memᴰ.tail m)) (at k)
@@ -56,28 +52,20 @@ module _ {A : Type 0} (at : Link → ℕ) (what : Link → A) where
         let e = length-set xs (at i) (what i) in
         stand_sets ks _ (λ i m. f i (Memᴰ.tail m)) k m (omega (arith, l, e))
 
-cells_set : (ks : List Link) (words : List ℕ) → sets (λ k. k.place.cell) (λ k. k.place.main) words ks ≡ with_cells words ks
-cells_set [] words = refl
-cells_set (k ∷ ks) words = cells_set ks _
-
-mains_set : (ks : List Link) (mains : List Main) → sets (λ k. k.place.main) (λ k. k.holds) mains ks ≡ with_mains mains ks
-mains_set [] mains = refl
-mains_set (k ∷ ks) mains = mains_set ks _
-
 -- The same of the words and the mains into which a chain is written.
 module _ (P : ℕ → Type 0) (ks : List Link) (words : List ℕ) (f : (k : Link) → Memᴰ k ks → P k.place.main) where
   words_stay : (c : ℕ) → Standing P words c → Standing P (with_cells words ks) c
-  words_stay c s = subst (λ (ws : List ℕ). Standing P ws c) (cells_set ks words) (sets_stand _ _ P ks words f c s)
+  words_stay c s = subst (λ (ws : List ℕ). Standing P ws c) (sym (cells_filled words ks)) (sets_stand _ _ P ks words f c s)
 
   words_new : (k : Link) → Memᴰ k ks → (c : ℕ) → k.place.cell ≡ c → c < length words → Standing P (with_cells words ks) c
-  words_new k m c e l = subst (λ (ws : List ℕ). Standing P ws c) (cells_set ks words) (subst (Standing P _) e (stand_sets _ _ P ks words f k m (subst (λ i. i < length words) (sym e) l)))
+  words_new k m c e l = subst (λ (ws : List ℕ). Standing P ws c) (sym (cells_filled words ks)) (subst (Standing P _) e (stand_sets _ _ P ks words f k m (subst (λ i. i < length words) (sym e) l)))
 
 module _ (P : Main → Type 0) (ks : List Link) (mains : List Main) (f : (k : Link) → Memᴰ k ks → P k.holds) where
   mains_stay : (n : ℕ) → Standing P mains n → Standing P (with_mains mains ks) n
-  mains_stay n s = subst (λ (xs : List Main). Standing P xs n) (mains_set ks mains) (sets_stand _ _ P ks mains f n s)
+  mains_stay n s = subst (λ (xs : List Main). Standing P xs n) (sym (mains_filled mains ks)) (sets_stand _ _ P ks mains f n s)
 
   mains_new : (k : Link) → Memᴰ k ks → (n : ℕ) → k.place.main ≡ n → n < length mains → Standing P (with_mains mains ks) n
-  mains_new k m n e l = subst (λ (xs : List Main). Standing P xs n) (mains_set ks mains) (subst (Standing P _) e (stand_sets _ _ P ks mains f k m (subst (λ i. i < length mains) (sym e) l)))
+  mains_new k m n e l = subst (λ (xs : List Main). Standing P xs n) (sym (mains_filled mains ks)) (subst (Standing P _) e (stand_sets _ _ P ks mains f k m (subst (λ i. i < length mains) (sym e) l)))
 
 -- WHAT AN EDIT PREPARES
 

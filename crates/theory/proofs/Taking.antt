@@ -5,6 +5,7 @@ use mathlib.Core.Option.{Option as Maybe, none, some}
 use Rattle.keys.specs.Laws.{KeyLaws}
 use Rattle.keys.specs.Routes.{chunk_at}
 use Rattle.std.specs.List.{slice_get}
+use Rattle.machine.proofs.Walk.{no_some}
 use Rattle.machine.specs.Machine.{Entry, Main as Shape, Op, Seat as Place, State as Machine, word, main as main_of, key, read, swap, parent, clean, Alike, Fresh, Prepares, Cleans}
 use Rattle.machine.specs.Machine.{MainInUse as UsedMain, PairInUse as UsedPair}
 use Rattle.machine.specs.Tree.{nth as placed}
@@ -28,11 +29,11 @@ use Rattle.rules.specs.declared.NewCell.{NewCell}
 use Rattle.rules.specs.declared.Outcome.{Outcome}
 use Rattle.rules.specs.declared.Phase.TheVariants.{Read, Swap, Parent, Clean}
 use Rattle.rules.specs.declared.Seat.{Seat}
-use Rattle.theory.proofs.Chained.{cell_of, number_of, no_some, news_link, news_once, length_places, chain_held}
+use Rattle.theory.proofs.Chained.{cell_of, number_of, news_link, news_once, length_places, chain_held}
 use Rattle.theory.proofs.Drafting.{contracted}
 use Rattle.theory.proofs.Ground.{Ground}
 use Rattle.theory.proofs.Holding.{in_seats, seat_shown, held_fine, word_shown, main_shown, names_used}
-use Rattle.theory.proofs.Passing.{length_above, above_two}
+use Rattle.theory.proofs.Passing.{length_above, above_two, key_calling}
 use Rattle.theory.proofs.Likeness.{word_alike, main_alike, pair_alike}
 use Rattle.theory.proofs.Made.{cells_taken, rest_taken, main_taken, pair_taken, cells_of_chain, link_cell, link_number, cells_once, word_else, main_else, pair_else, main_made, pair_made, link_word, link_main_lem}
 use Rattle.theory.proofs.Preparing.{Says, says, node_low, prepares}
@@ -47,12 +48,6 @@ use Rattle.theory.specs.Shown.{shown_main, shown_mem}
 -- A claim is carried along three equations.
 carried : {A B C : Type 0} (P : A → B → C → Type 0) {a d : A} {b e : B} {c f : C} → a ≡ d → b ≡ e → c ≡ f → P a b c → P d e f
 carried P {a} {d} {b} {e} {c} {f} x y z u = subst (λ (v : _). P v e f) x (subst (λ (v : _). P a v f) y (subst (λ (v : _). P a b v) z u))
-
-key_of_call : {K : Type 0} (settled : Bool) (ask : Ask) (k : K) → key (calling settled ask k) ≡ k
-key_of_call true ask k = refl
-key_of_call false Get k = refl
-key_of_call false (Put v) k = refl
-key_of_call false Cut k = refl
 
 -- Only a put has made a pair.
 made_pair_lem : (ask : Ask) (p q : ℕ) → made_pair ask p ≡ some q → (v : ℕ) × (ask ≡ Put v) × (p ≡ q)
@@ -200,7 +195,7 @@ module _ {K : Type 0} (same : K → K → Bool) (hash : K → ℕ) (laws : KeyLa
 
     cleans : Cleans same hash chunk_at (shown_main (node y)) a₁ (key caller) d₀ x₀.buried (shown_main y₀)
     cleans =
-        subst (λ (u : K). Cleans same hash chunk_at (shown_main (node y)) a₁ u d₀ x₀.buried (shown_main y₀)) (sym (key_of_call (is_settled x₀) x₀.ask k))
+        subst (λ (u : K). Cleans same hash chunk_at (shown_main (node y)) a₁ u d₀ x₀.buried (shown_main y₀)) (sym (key_calling (is_settled x₀) x₀.ask k))
         (subst (λ (u : Edit). Cleans same hash chunk_at (shown_main (node y)) a₁ k d₀ x₀.buried (shown_main (edited u (first picks.pairs) (first picks.cells)))) (sym ed)
         (contracted same hash laws (length s.memory.pairs) g.written.cells k a₁ d₀ x₀.buried y
         (held_fine same hash laws g t k o keyed a₁ over n (node y) h).formed (node_low same hash laws s.memory.pairs a₁ y sd) b))

@@ -9,16 +9,16 @@ use keys::Key;
 
 // The log of every run is that of a plain map; so it is with the pairs in place of their values.
 pub fn machine_stands<K: Key>()
-    ensures values { Claim K.Key.same K.Key.hash }
-    ensures pairs { PairClaim K.Key.same K.Key.hash }
+    ensures values { Claim K.eq K.hash }
+    ensures pairs { PairClaim K.eq K.hash }
 {}
 
 // So it is with the exact turns, and then every reached main keeps the rules. With none withdrawn, each reached tomb has an owner;
 // with no call open besides, no tomb is reached and the tree is compact.
 pub fn rest_stands<K: Key>()
-    ensures log { LogStands K.Key.same K.Key.hash }
-    ensures ruled { AlwaysRuled K.Key.same K.Key.hash }
-    ensures owned { AlwaysOwned K.Key.same K.Key.hash }
-    ensures rest { AtRest K.Key.same K.Key.hash }
+    ensures log { LogStands K.eq K.hash }
+    ensures ruled { AlwaysRuled K.eq K.hash }
+    ensures owned { AlwaysOwned K.eq K.hash }
+    ensures rest { AtRest K.eq K.hash }
     ensures reached { ReachedAlong K }
 {}

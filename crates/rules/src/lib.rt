@@ -235,10 +235,10 @@ pub fn scripts_compute()
 
 // The rules have the laws that they must have if they say what they should, for every key kind.
 pub fn laws_stand<K: Key>()
-    ensures map { MapLaws K.Key.same }
-    ensures refusals { Refusals K.Key.same K.Key.hash }
-    ensures decides { Decides K.Key.same K.Key.hash }
-    ensures formats { FormatsFresh K.Key.same K.Key.hash }
-    ensures followed { (m : Memory K) → Followed K.Key.same K.Key.hash m }
-    ensures counted { (m : Memory K) → Counted K.Key.same K.Key.hash m }
+    ensures map { MapLaws K.eq }
+    ensures refusals { Refusals K.eq K.hash }
+    ensures decides { Decides K.eq K.hash }
+    ensures formats { FormatsFresh K.eq K.hash }
+    ensures followed { (m : Memory K) → Followed K.eq K.hash m }
+    ensures counted { (m : Memory K) → Counted K.eq K.hash m }
 {}

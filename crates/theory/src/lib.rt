@@ -16,34 +16,34 @@ use keys::Key;
 
 // The log theorem, for every key kind: of every history; and call by call, in the shape that the calls of a table cite.
 pub fn log_stands<K: Key>()
-    ensures histories { LogTheorem K.Key.same K.Key.hash }
-    ensures calls { CallTheorem K.Key.same K.Key.hash }
-    ensures formats { FormatTheorem K.Key.same K.Key.hash }
+    ensures histories { LogTheorem K.eq K.hash }
+    ensures calls { CallTheorem K.eq K.hash }
+    ensures formats { FormatTheorem K.eq K.hash }
 {}
 
 // The stamped calls of a history have an order: the theorem, for every key kind.
 pub fn stamps_order<K: Key>()
-    ensures { OrderTheorem K.Key.same K.Key.hash }
+    ensures { OrderTheorem K.eq K.hash }
 {}
 
 // While the places in use leave enough, whatever a turn takes suffices.
 pub fn room_suffices<K: Key>()
-    ensures { RoomSuffices K.Key.same K.Key.hash }
+    ensures { RoomSuffices K.eq K.hash }
 {}
 
 // A count tells the number of what is reached, however that is listed.
 pub fn counts_tell<K: Key>()
-    ensures { (m : Memory K) → Tells K.Key.same K.Key.hash m }
+    ensures { (m : Memory K) → Tells K.eq K.hash m }
 {}
 
 // After every history the table keeps its figures, its memory their need, and each seat the rules of its record.
 pub fn records_steady<K: Key>()
-    ensures { SteadyTheorem K.Key.same K.Key.hash }
+    ensures { SteadyTheorem K.eq K.hash }
 {}
 
 // The plain map of the rules and the log of the machine say the same, for every key kind.
 pub fn maps_agree<K: Key>()
-    ensures { FeedTheorem K.Key.same K.Key.hash }
+    ensures { FeedTheorem K.eq K.hash }
 {}
 
 // The edits of nodes and lists show as those of the machine's mains.
@@ -58,5 +58,5 @@ pub fn memory_shows<K: Key>()
 
 // A hash leads to the same cells by the rules and in the memory shown, where that is intact.
 pub fn reach_shows<K: Key>()
-    ensures { (m : Memory K) → ShowsReach K.Key.same K.Key.hash m }
+    ensures { (m : Memory K) → ShowsReach K.eq K.hash m }
 {}

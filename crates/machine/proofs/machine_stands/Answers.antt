@@ -7,6 +7,6 @@ use Rattle.machine.proofs.machine_stands.Goals as goal
 pub returns : goal.returns
 returns g c = record {
   values = λ laws chunk es s r.
-      stands_worth g.K.Key.same g.K.Key.hash chunk es s (main_theorem g.K.Key.same g.K.Key.hash chunk (laws_of g.K.Key.same g.K.Key.hash laws) es s r);
-  pairs = λ laws chunk es s r. main_theorem g.K.Key.same g.K.Key.hash chunk (laws_of g.K.Key.same g.K.Key.hash laws) es s r;
+      stands_worth g.K.PartialEq.eq g.K.Key.hash chunk es s (main_theorem g.K.PartialEq.eq g.K.Key.hash chunk (laws_of g.K.PartialEq.eq g.K.Key.hash laws) es s r);
+  pairs = λ laws chunk es s r. main_theorem g.K.PartialEq.eq g.K.Key.hash chunk (laws_of g.K.PartialEq.eq g.K.Key.hash laws) es s r;
 }

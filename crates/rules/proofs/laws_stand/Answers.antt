@@ -7,7 +7,7 @@ use Rattle.rules.proofs.laws_stand.Goals as goal
 
 pub returns : goal.returns
 returns g c =
-    let same = g.K.Key.same in
+    let same = g.K.PartialEq.eq in
     let hash = g.K.Key.hash in
     record {
       map = map_laws same hash g.met.K.Key.lawful;

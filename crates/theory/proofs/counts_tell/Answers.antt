@@ -3,4 +3,4 @@ use Rattle.theory.proofs.Lengths.{tells}
 use Rattle.theory.proofs.counts_tell.Goals as goal
 
 pub returns : goal.returns
-returns g c m = let same = g.K.Key.same in let hash = g.K.Key.hash in tells same hash m (counted same hash m)
+returns g c m = let same = g.K.PartialEq.eq in let hash = g.K.Key.hash in tells same hash m (counted same hash m)

@@ -4,6 +4,6 @@ use Rattle.theory.proofs.log_stands.Goals as goal
 
 pub returns : goal.returns
 returns g c =
-    let same = g.K.Key.same in
+    let same = g.K.PartialEq.eq in
     let hash = g.K.Key.hash in
     record { histories = log_stands_lem same hash; calls = calls_stand same hash; formats = formats_stand same hash }

@@ -3,7 +3,7 @@
 
 use keys::{Card, Code, Key};
 use sizing::capacity_for;
-use sizing::lines::{KeyLine, Route, read_key};
+use sizing::lines::{KeyLine, Route};
 use std::io;
 use std::io::{BufRead, BufReader};
 
@@ -13,7 +13,7 @@ fn main(rt: HostRuntime) -> io::Result<()> {
     let lines = BufReader::new(rt.alloc(), rt.stdin())?.split(rt.alloc(), b'\n');
     for (line, number) in lines.zip(1..=u64::MAX) {
         let line = line?;
-        match read_key(line.as_slice()) {
+        match KeyLine::try_from(line.as_slice()) {
             Ok(KeyLine::OfCard(card)) => take_key(&rt, line.as_slice(), card, &mut cards)?,
             Ok(KeyLine::OfCode(code)) => take_key(&rt, line.as_slice(), code, &mut codes)?,
             Err(refusal) => println!(rt; "{refusal} line={number}")?,

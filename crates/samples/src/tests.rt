@@ -31,7 +31,7 @@ fn fnv_1a_gives_the_published_vectors(rt: HostRuntime) {
 
 #[test]
 fn the_code_gives_the_sample_figures(rt: HostRuntime) -> Result<(), Fail> {
-    let one = Code::read(b"1")?.hash();
+    let one = Code::try_from(b"1".as_slice())?.hash();
     let figures = [
         Card(4294967296).hash(),
         chunk(33, 0),
@@ -87,9 +87,9 @@ fn bytes_lie_high_first(rt: HostRuntime) {
 #[test]
 fn codes_are_one_to_eight_presses(rt: HostRuntime) {
     for text in ["", "123456789", "12a", "1 2", "12-"] {
-        assert_eq!(rt; Code::read(text.as_bytes()).is_err(), true, "{}", text);
+        assert_eq!(rt; Code::try_from(text.as_bytes()).is_err(), true, "{}", text);
     }
     for text in ["0", "*", "#", "12345678", "*12#*12#"] {
-        assert_eq!(rt; Code::read(text.as_bytes()).is_ok(), true, "{}", text);
+        assert_eq!(rt; Code::try_from(text.as_bytes()).is_ok(), true, "{}", text);
     }
 }

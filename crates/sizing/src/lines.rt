@@ -15,18 +15,22 @@ pub enum KeyLine {
     OfCode(Code),
 }
 
-// The key that a line names.
-pub fn read_key(line: &[u8]) -> Result<KeyLine, Refusal>
-    ensures { Names line.now result }
-{
-    let (name, text) = line.split_at_checked(5).ok_or(Refusal::LineMalformed)?;
-    match name {
-        b"card=" => {
-            let n = number(text).ok_or(Refusal::LineMalformed)?;
-            Ok(KeyLine::OfCard(Card(n)))
+// A line names a key if it has one of the two forms.
+impl<'a> TryFrom<&'a [u8]> for KeyLine {
+    type Error = Refusal;
+
+    ghost try_from_gives = { λ line named. Names line.now named };
+
+    fn try_from(line: &'a [u8]) -> Result<KeyLine, Refusal> {
+        let (name, text) = line.split_at_checked(5).ok_or(Refusal::LineMalformed)?;
+        match name {
+            b"card=" => {
+                let n = number(text).ok_or(Refusal::LineMalformed)?;
+                Ok(KeyLine::OfCard(Card(n)))
+            }
+            b"code=" => Ok(KeyLine::OfCode(Code::try_from(text)?)),
+            _ => Err(Refusal::LineMalformed),
         }
-        b"code=" => Ok(KeyLine::OfCode(Code::read(text)?)),
-        _ => Err(Refusal::LineMalformed),
     }
 }
 

@@ -12,11 +12,13 @@ use crate::keypad::Code;
 use crate::kind::Key;
 use panel::Refusal;
 
-impl Code {
-    // The code that these bytes are, if they are 1 to 8 presses.
-    pub fn read(bytes: &[u8]) -> Result<Code, Refusal>
-        ensures { in_presses result ≡ code_read bytes.now }
-    {
+// Bytes are a code if they are 1 to 8 presses.
+impl<'a> TryFrom<&'a [u8]> for Code {
+    type Error = Refusal;
+
+    ghost try_from_gives = { λ bytes read. in_presses read ≡ code_read bytes.now };
+
+    fn try_from(bytes: &'a [u8]) -> Result<Code, Refusal> {
         let count = bytes.len();
         if count < 1 || count > 8 {
             return Err(Refusal::CodeMisread);
@@ -30,7 +32,9 @@ impl Code {
             count,
         })
     }
+}
 
+impl Code {
     // The presses, as their ASCII bytes.
     pub fn presses(&self) -> &[u8]
         ensures { result.now ≡ presses_of self.now }

@@ -20,7 +20,7 @@ loop-key-preserved g c =
           let e = w.chosen-is in
           rw e
           (different_new same c.args.keys.now c.loop-key.chosen.items c.loop-key.key-index key c.loop-key-test.true c.key-item.is c.loop-key.invariant
-          _ (told ∙ w.if-not-contains.true) w.in_ok-push.ensures.items)
+          w.push.new.self.items (told ∙ w.if-not-contains.true) w.in_ok-push.ensures.items)
       | else-not-contains w ↦
           let e = w.chosen-is in
           rw e

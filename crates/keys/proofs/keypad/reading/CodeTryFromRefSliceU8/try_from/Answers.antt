@@ -1,6 +1,6 @@
 use Rattle.std.proofs.Common.{◌≡◌, ◌<◌, Err, rules, length, refl, arith, length-set}
 use Rattle.keys.proofs.Keypresses.{kept_more, misread_at, misread_length, read_all}
-use Rattle.keys.proofs.keypad.Code.read.Goals as goal
+use Rattle.keys.proofs.keypad.reading.CodeTryFromRefSliceU8.try_from.Goals as goal
 
 pub returns-then-count-lt1 : goal.returns-then-count-lt1
 returns-then-count-lt1 c = misread_length c.args.bytes.now c.then-count-lt1.either

@@ -1,18 +1,12 @@
--- The first n words of a list: how many they are, and that the list is a part of them there.
-use Rattle.std.proofs.Common.{◌≡◌, ℕ, ◌<◌, min, List, length, take, sym, arith, length-take, get_or-take}
+-- The first n words of a list: what is read from them, and that a word written into the list is written into them.
+use Rattle.std.proofs.Common.{◌≡◌, ℕ, ◌<◌, List, length, get_or, take, set, Ok, arith}
+use Rattle.std.proofs.lemmas.Grind.{common_steps}
 use lib.Seq.{take-set-lt}
-use Rattle.banks.proofs.Parts.{Sits}
+use Rattle.banks.specs.Words.{read_answer}
 
-module _ (n : ℕ) (all : List ℕ) where
-  pub length_front : min (length all) n ≡ length (take n all)
-  length_front = let e = length-take n all in omega arith
+module _ (n : ℕ) (all : List ℕ) (cell : ℕ) where
+  pub read_front : cell < length (take n all) → Ok (get_or all cell 0) ≡ read_answer (take n all) cell
+  read_front h = grind (arith, common_steps)
 
-  pub sits_front : (cell : ℕ) → cell < n → Sits (take n) all cell cell
-  sits_front cell h =
-      let e = length_front in
-      record {
-        inside = λ i. omega arith;
-        beyond = λ o. omega arith;
-        word = sym (get_or-take n all cell 0 h);
-        write = λ new. take-set-lt n all cell new h;
-      }
+  pub set_front : (new : ℕ) → take n (set all cell new) ≡ set (take n all) cell new
+  set_front new = grind (arith, common_steps, take-set-lt)

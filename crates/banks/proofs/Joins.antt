@@ -1,32 +1,29 @@
--- Two lists of words, one behind the other and cut to the first n: each is a part of the whole.
-use Rattle.std.proofs.Common.{◌≡◌, ℕ, ◌-◌, ◌<◌, ◌≤◌, List, ◌++◌, length, take, sym, arith, length-append}
-use lib.ListN.{get_or-append}
+-- Two lists of words, one behind the other and cut to the first n: what the calls on either of them tell of the whole.
+use Rattle.std.proofs.Common.{◌≡◌, ℕ, ◌+◌, ◌<◌, List, ◌++◌, length, take, set, arith}
 use lib.Seq.{set-append_left}
-use Rattle.std.proofs.lemmas.List.{get_or-append_right, set-append_right}
-use Rattle.banks.proofs.Parts.{Sits, sits_within}
-use Rattle.banks.proofs.Front.{sits_front}
+use Rattle.std.proofs.lemmas.List.{set-append_right}
+use Rattle.std.proofs.lemmas.Grind.{common_steps}
+use Rattle.banks.proofs.Front.{set_front}
+use Rattle.banks.specs.Words.{read_answer, put_answer}
 
-module _ (n : ℕ) (low high : List ℕ) (cell : ℕ) (k : cell < n) where
-  pub sits_low : cell < length low → Sits (λ part. take n (part ++ high)) low cell cell
-  sits_low h =
-      let e = length-append low high in
-      sits_within (take n) (λ part. part ++ high) low cell cell cell
-      (record {
-        inside = λ i. omega arith;
-        beyond = λ o. absurd (omega arith);
-        word = sym (get_or-append low high 0 cell h);
-        write = λ new. sym (set-append_left low high cell new h);
-      })
-      (sits_front n (low ++ high) cell k)
+-- A cell of the first list.
+module _ (n : ℕ) (low high : List ℕ) (cell : ℕ) (h : cell < length low) where
+  pub read_low : cell < length (take n (low ++ high)) → read_answer low cell ≡ read_answer (take n (low ++ high)) cell
+  read_low k = grind (arith, common_steps)
 
-  pub sits_high : (start : ℕ) → start ≡ length low → start ≤ cell → Sits (λ part. take n (low ++ part)) high (cell - start) cell
-  sits_high start s h =
-      let e = length-append low high in
-      sits_within (take n) (λ part. low ++ part) high (cell - start) cell cell
-      (record {
-        inside = λ i. omega arith;
-        beyond = λ o. omega arith;
-        word = sym (get_or-append_right low high start cell 0 (sym s) h);
-        write = λ new. sym (set-append_right low high start cell new (sym s) h);
-      })
-      (sits_front n (low ++ high) cell k)
+  pub put_low : cell < length (take n (low ++ high)) → put_answer low cell ≡ put_answer (take n (low ++ high)) cell
+  put_low k = grind (arith, common_steps)
+
+  pub set_low : (part : List ℕ) (new : ℕ) → part ≡ set low cell new → take n (part ++ high) ≡ set (take n (low ++ high)) cell new
+  set_low part new p = grind (arith, set_front, set-append_left low high cell new h)
+
+-- A cell of the second list.
+module _ (n : ℕ) (low high : List ℕ) (rest cell : ℕ) (e : rest + length low ≡ cell) where
+  pub read_high : cell < length (take n (low ++ high)) → read_answer high rest ≡ read_answer (take n (low ++ high)) cell
+  read_high k = grind (arith, common_steps)
+
+  pub put_high : cell < length (take n (low ++ high)) → put_answer high rest ≡ put_answer (take n (low ++ high)) cell
+  put_high k = grind (arith, common_steps)
+
+  pub set_high : (part : List ℕ) (new : ℕ) → part ≡ set high rest new → take n (low ++ part) ≡ set (take n (low ++ high)) cell new
+  set_high part new p = grind (arith, set_front, set-append_right low high (length low) cell new)

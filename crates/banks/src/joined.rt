@@ -2,7 +2,7 @@
 ghost use Rattle.std.specs.Prelude.{◌≡◌, ◌++◌};
 ghost use Rattle.banks.specs.Layout.{capped, capped_few};
 
-use crate::{Bank, MOST_CELLS};
+use crate::{Bank, MOST_CELLS, inside};
 use panel::Refusal;
 
 // The cells of the first bank, then those of the second; cells past the first 65,535 are unused.
@@ -32,35 +32,18 @@ impl<A: Bank, B: Bank> Bank for JoinedBank<A, B> {
     }
 
     fn read(&self, cell: usize) -> Result<u16, Refusal> {
-        let start = self.first.size();
-        if cell < start {
-            self.first.read(cell)
-        } else if cell < MOST_CELLS {
-            self.second.read(cell - start)
-        } else {
-            Err(Refusal::BeyondBank)
-        }
-    }
-
-    fn swap(&mut self, cell: usize, old: u16, new: u16) -> Result<bool, Refusal> {
-        let start = self.first.size();
-        if cell < start {
-            self.first.swap(cell, old, new)
-        } else if cell < MOST_CELLS {
-            self.second.swap(cell - start, old, new)
-        } else {
-            Err(Refusal::BeyondBank)
+        inside(cell, self.size())?;
+        match cell.checked_sub(self.first.size()) {
+            None => self.first.read(cell),
+            Some(rest) => self.second.read(rest),
         }
     }
 
     fn put(&mut self, cell: usize, word: u16) -> Result<(), Refusal> {
-        let start = self.first.size();
-        if cell < start {
-            self.first.put(cell, word)
-        } else if cell < MOST_CELLS {
-            self.second.put(cell - start, word)
-        } else {
-            Err(Refusal::BeyondBank)
+        inside(cell, self.size())?;
+        match cell.checked_sub(self.first.size()) {
+            None => self.first.put(cell, word),
+            Some(rest) => self.second.put(rest, word),
         }
     }
 }

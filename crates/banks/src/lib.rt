@@ -1,7 +1,8 @@
 // Banks of 16-bit words: what a bank is, and what can be done with any of them.
 #![tactic(auto)]
 
-ghost use Rattle.std.specs.Prelude.{◌≡◌, ℕ, ◌≤◌, List, length, slice_set};
+ghost use Rattle.std.specs.Prelude.{◌≡◌, ℕ, ◌≤◌, cond, List, length, Ok, Err, nat_lt, slice_set};
+ghost use Rattle.panel.specs.declared.Refusal.TheVariants.{BeyondBank};
 ghost use Rattle.banks.specs.Words.{read_answer, swap_answer, swapped, put_answer};
 
 mod bytes;
@@ -37,12 +38,30 @@ pub trait Bank {
     // Writes `new` if the cell holds `old`, and tells whether it did.
     fn swap(&mut self, cell: usize, old: u16, new: u16) -> Result<bool, Refusal>
         ensures answer { result ≡ swap_answer (words self.old) cell old }
-        ensures after { words self.new ≡ swapped (words self.old) cell old new };
+        ensures after { words self.new ≡ swapped (words self.old) cell old new }
+    {
+        let held = self.read(cell)? == old;
+        if held {
+            self.put(cell, new)?;
+        }
+        Ok(held)
+    }
 
     // Writes a word.
     fn put(&mut self, cell: usize, word: u16) -> Result<(), Refusal>
         ensures answer { result ≡ put_answer (words self.old) cell }
         ensures after { words self.new ≡ slice_set (words self.old) cell word };
+}
+
+// Refuses a cell whose number is not below the bank's size.
+fn inside(cell: usize, size: usize) -> Result<(), Refusal>
+    ensures { result ≡ cond (nat_lt cell size) (Ok tt) (Err BeyondBank) }
+{
+    if cell < size {
+        Ok(())
+    } else {
+        Err(Refusal::BeyondBank)
+    }
 }
 
 // Writes a word into a cell, and answers the word that the cell held.

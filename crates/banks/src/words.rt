@@ -2,7 +2,7 @@
 ghost use Rattle.std.specs.Prelude.{◌≡◌};
 ghost use Rattle.banks.specs.Layout.{capped, capped_few};
 
-use crate::{Bank, MOST_CELLS};
+use crate::{Bank, MOST_CELLS, inside};
 use panel::Refusal;
 
 // A cell for each lent word; words past the first 65,535 are unused.
@@ -30,32 +30,13 @@ impl<'a> Bank for WordBank<'a> {
     }
 
     fn read(&self, cell: usize) -> Result<u16, Refusal> {
-        if cell < self.size() {
-            Ok(self.cells[cell])
-        } else {
-            Err(Refusal::BeyondBank)
-        }
-    }
-
-    fn swap(&mut self, cell: usize, old: u16, new: u16) -> Result<bool, Refusal> {
-        if cell < self.size() {
-            if self.cells[cell] == old {
-                self.cells[cell] = new;
-                Ok(true)
-            } else {
-                Ok(false)
-            }
-        } else {
-            Err(Refusal::BeyondBank)
-        }
+        inside(cell, self.size())?;
+        Ok(self.cells[cell])
     }
 
     fn put(&mut self, cell: usize, word: u16) -> Result<(), Refusal> {
-        if cell < self.size() {
-            self.cells[cell] = word;
-            Ok(())
-        } else {
-            Err(Refusal::BeyondBank)
-        }
+        inside(cell, self.size())?;
+        self.cells[cell] = word;
+        Ok(())
     }
 }

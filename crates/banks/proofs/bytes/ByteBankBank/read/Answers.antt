@@ -1,20 +1,24 @@
-use Rattle.std.proofs.Common.{Ok, ap, ◌∙◌, arith}
-use Rattle.banks.specs.Layout.{capped, paired}
-use Rattle.banks.proofs.Ways.{answers, refuses}
-use Rattle.banks.proofs.Parts.{read_part}
-use Rattle.banks.proofs.Front.{length_front, sits_front}
-use Rattle.banks.proofs.Pairs.{pair_in_lem}
+use Rattle.std.proofs.Common.{◌∙◌, Ok, ap, arith, length-take}
+use Rattle.std.proofs.lemmas.Bool.Decides.{nat_tests}
+use Rattle.banks.specs.Layout.{paired}
+use Rattle.banks.proofs.Front.{read_front}
+use Rattle.banks.proofs.Pairs.{length_paired, get_paired}
 use Rattle.banks.proofs.bytes.ByteBankBank.read.Goals as goal
 
-pub word-requires : goal.word-requires
-word-requires c = pair_in_lem 65535 c.args.self.now.bytes.now c.args.cell (omega arith)
+pub overflow_mul-at : goal.overflow_mul-at
+overflow_mul-at c = grind (arith, nat_tests, length-take 65535 (paired c.args.self.now.bytes.now))
 
-pub returns-then-cell-size : goal.returns-then-cell-size
-returns-then-cell-size c =
-    let all = paired c.args.self.now.bytes.now in
-    let e = length_front 65535 all in
-    let sits = sits_front 65535 all c.args.cell (omega arith) in
-    record { answer = ap Ok c.word.ensures ∙ answers all c.args.cell _ (omega arith) ∙ read_part sits }
+pub bounds-self-at : goal.bounds-self-at
+bounds-self-at c = grind (arith, nat_tests, length_paired, length-take 65535 (paired c.args.self.now.bytes.now))
 
-pub returns-else-cell-size : goal.returns-else-cell-size
-returns-else-cell-size c = record { answer = refuses (capped (paired c.args.self.now.bytes.now)) c.args.cell _ (omega arith) }
+pub overflow_add-at : goal.overflow_add-at
+overflow_add-at c = grind (arith, nat_tests, length-take 65535 (paired c.args.self.now.bytes.now))
+
+pub bounds-self-at-2 : goal.bounds-self-at-2
+bounds-self-at-2 c = grind (arith, nat_tests, length_paired, length-take 65535 (paired c.args.self.now.bytes.now))
+
+pub returns : goal.returns
+returns c =
+    let bytes = c.args.self.now.bytes.now in
+    let word = get_paired bytes c.args.cell (grind (arith, nat_tests, length-take 65535 (paired bytes))) in
+    record { answer = ap Ok (c.from_be_bytes.ensures ∙ word) ∙ read_front 65535 (paired bytes) c.args.cell (grind (arith, nat_tests)) }

@@ -1,12 +1,6 @@
-use Rattle.std.proofs.Common.{arith}
-use Rattle.banks.specs.Layout.{paired}
-use Rattle.banks.proofs.Front.{length_front}
+use Rattle.std.proofs.Common.{ℕ, arith, length-take}
 use Rattle.banks.proofs.Pairs.{length_paired}
 use Rattle.banks.proofs.bytes.ByteBankBank.size.Goals as goal
 
 pub returns : goal.returns
-returns c =
-    let bytes = c.args.self.now.bytes.now in
-    let e = length_paired bytes in
-    let f = length_front 65535 (paired bytes) in
-    record { answer = omega arith }
+returns c = record { answer = omega (arith, length-take {A = ℕ} 65535, length_paired) }

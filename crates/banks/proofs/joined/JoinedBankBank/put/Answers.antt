@@ -1,37 +1,20 @@
-use Rattle.std.proofs.Common.{◌≤◌, ◌++◌, length, sym, ap, ◌∙◌, arith}
-use Rattle.std.proofs.lemmas.List.{set_past}
-use Rattle.banks.specs.Layout.{capped, capped_few}
-use Rattle.banks.proofs.Ways.{refuses}
-use Rattle.banks.proofs.Parts.{put_part}
-use Rattle.banks.proofs.Joins.{sits_low, sits_high}
+use Rattle.std.proofs.Common.{◌∙◌, ◌<◌, ◌+◌, ◌≡◌, length, arith}
+use Rattle.std.proofs.lemmas.Bool.Decides.{nat_tests}
+use Rattle.banks.proofs.Joins.{put_low, set_low, put_high, set_high}
 use Rattle.banks.proofs.joined.JoinedBankBank.put.Goals as goal
 
-pub returns-then-cell-start : goal.returns-then-cell-start
-returns-then-cell-start g c =
-    let low = g.A.Bank.words c.args.self.now.first in
-    let high = g.B.Bank.words c.args.self.now.second in
-    let few = g.A.Bank.few c.args.self.now.first in
-    let sits = sits_low 65535 low high c.args.cell (omega arith) (omega arith) in
+pub returns-in-None : goal.returns-in-None
+returns-in-None g c =
+    let h : c.args.cell < length (g.A.Bank.words c.args.self.now.first) = omega (arith, c.in-None.ensures) in
     record {
-      answer = c.put.ensures.answer ∙ put_part sits;
-      after = ap (λ part. capped (part ++ high)) c.put.ensures.after ∙ sits.write c.args.word;
+      answer = c.put.ensures.answer ∙ put_low 65535 _ _ _ h (grind (arith, nat_tests));
+      after = set_low 65535 _ _ _ h _ _ c.put.ensures.after;
     }
 
-pub returns-then-cell-lt-MOST_CELLS : goal.returns-then-cell-lt-MOST_CELLS
-returns-then-cell-lt-MOST_CELLS g c =
-    let low = g.A.Bank.words c.args.self.now.first in
-    let high = g.B.Bank.words c.args.self.now.second in
-    let sits = sits_high 65535 low high c.args.cell c.if-cell-lt-MOST_CELLS.true c.size-start.result c.size-start.ensures.answer c.if-cell-start.false in
+pub returns-in-Some : goal.returns-in-Some
+returns-in-Some g c =
+    let e : c.in-Some.rest + length (g.A.Bank.words c.args.self.now.first) ≡ c.args.cell = omega (arith, c.in-Some.ensures) in
     record {
-      answer = c.put-then-cell-lt-MOST_CELLS.ensures.answer ∙ put_part sits;
-      after = ap (λ part. capped (low ++ part)) c.put-then-cell-lt-MOST_CELLS.ensures.after ∙ sits.write c.args.word;
+      answer = c.put-in-Some.ensures.answer ∙ put_high 65535 _ _ _ _ e (grind (arith, nat_tests));
+      after = set_high 65535 _ _ _ _ e _ _ c.put-in-Some.ensures.after;
     }
-
-pub returns-else-cell-lt-MOST_CELLS : goal.returns-else-cell-lt-MOST_CELLS
-returns-else-cell-lt-MOST_CELLS g c =
-    let low = g.A.Bank.words c.args.self.now.first in
-    let high = g.B.Bank.words c.args.self.now.second in
-    let words = capped (low ++ high) in
-    let few = capped_few (low ++ high) in
-    let out : length words ≤ c.args.cell = omega arith in
-    record { answer = refuses words c.args.cell tt out; after = sym (set_past words c.args.cell c.args.word out) }

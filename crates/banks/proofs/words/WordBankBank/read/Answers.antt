@@ -1,22 +1,13 @@
-use Rattle.std.proofs.Common.{◌∙◌, arith, rules}
-use Rattle.banks.specs.Layout.{capped}
-use Rattle.banks.proofs.Ways.{answers, refuses}
-use Rattle.banks.proofs.Parts.{read_part}
-use Rattle.banks.proofs.Front.{length_front, sits_front}
+use Rattle.std.proofs.Common.{arith, length-take}
+use Rattle.std.proofs.lemmas.Bool.Decides.{nat_tests}
+use Rattle.banks.proofs.Front.{read_front}
 use Rattle.banks.proofs.words.WordBankBank.read.Goals as goal
 
 pub offset_bounds-self-cell : goal.offset_bounds-self-cell
-offset_bounds-self-cell c = let e = length_front 65535 c.args.self.now.cells.now in search rules
+offset_bounds-self-cell c = grind (arith, nat_tests, length-take 65535 c.args.self.now.cells.now)
 
 pub bounds-self-cell : goal.bounds-self-cell
-bounds-self-cell c = let e = length_front 65535 c.args.self.now.cells.now in omega arith
+bounds-self-cell c = grind (arith, nat_tests, length-take 65535 c.args.self.now.cells.now)
 
-pub returns-then-cell-size : goal.returns-then-cell-size
-returns-then-cell-size c =
-    let all = c.args.self.now.cells.now in
-    let e = length_front 65535 all in
-    let sits = sits_front 65535 all c.args.cell (omega arith) in
-    record { answer = answers all c.args.cell _ (omega arith) ∙ read_part sits }
-
-pub returns-else-cell-size : goal.returns-else-cell-size
-returns-else-cell-size c = record { answer = refuses (capped c.args.self.now.cells.now) c.args.cell _ (omega arith) }
+pub returns : goal.returns
+returns c = record { answer = read_front 65535 _ _ (grind (arith, nat_tests)) }

@@ -36,10 +36,8 @@ fn take_key<K: Key>(rt: &HostRuntime, line: &[u8], key: K, keys: &mut Vec<K>) ->
 // What a table of these keys needs, and whether a table may be so large.
 fn show_figures<K: Key>(rt: &HostRuntime, kind: &str, keys: &[K]) -> io::Result<()> {
     let needs = capacity_for(rt.alloc(), keys)?;
-    let pairs = needs.pairs;
-    let cells = needs.cells;
     match needs.within_limits() {
-        Ok(_) => println!(rt; "keys={kind} pairs={pairs} cells={cells}"),
-        Err(refusal) => println!(rt; "keys={kind} pairs={pairs} cells={cells} {refusal}"),
+        Ok(_) => println!(rt; "keys={kind} {needs}"),
+        Err(refusal) => println!(rt; "keys={kind} {needs} {refusal}"),
     }
 }

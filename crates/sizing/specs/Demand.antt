@@ -1,5 +1,5 @@
 -- How many pairs and cells a table at rest with given keys needs.
-use Rattle.std.specs.Prelude.{ℕ, zero, suc, ◌+◌, Bool, false, cond, ◌&&◌, ◌||◌, List, [], ◌∷◌, ◌++◌, map, length, Ok, Err, fold, Result, ◌==◌, nat_le}
+use Rattle.std.specs.Prelude.{ℕ, zero, suc, ◌+◌, Bool, false, cond, ◌&&◌, ◌||◌, List, [], ◌∷◌, ◌++◌, map, length, Ok, Err, fold, codes, decimal, Result, ◌==◌, nat_le}
 use Rattle.keys.specs.Routes.{prefix_at}
 use Rattle.panel.specs.declared.Refusal.{Refusal}
 use Rattle.panel.specs.declared.Refusal.TheVariants.{FigureOutOfLimits}
@@ -48,3 +48,7 @@ capacity_of same hash ks = record { pairs = length (different same ks); cells = 
 -- The figures, if a table may be so large: at most 16,384 pairs and 4,096 cells.
 abbrev pub within_limits_of : Capacity → Result Capacity Refusal
 within_limits_of c = cond (nat_le c.pairs 16384 && nat_le c.cells 4096) (Ok c) (Err FigureOutOfLimits)
+
+-- The figures as they are printed.
+abbrev pub figures_text : Capacity → List ℕ
+figures_text c = codes "pairs=" ++ (decimal c.pairs ++ (codes " cells=" ++ decimal c.cells))

@@ -1,8 +1,8 @@
 // How large a table must be for given keys.
 #![tactic(auto)]
 
-ghost use Rattle.std.specs.Prelude.{◌≡◌, ℕ, map, IfOk};
-ghost use Rattle.sizing.specs.Demand.{different, cells_for, capacity_of, within_limits_of};
+ghost use Rattle.std.specs.Prelude.{◌≡◌, ℕ, map, IfOk, Some};
+ghost use Rattle.sizing.specs.Demand.{different, cells_for, capacity_of, within_limits_of, figures_text};
 ghost use Rattle.sizing.specs.Depths.{larger_two, deepest_two_of};
 ghost use Rattle.sizing.specs.Law.{Counts};
 
@@ -12,6 +12,7 @@ use keys::Key;
 use keys::routes::parting;
 use panel::Refusal;
 use std::alloc::{AllocError, Global};
+use std::fmt;
 
 // What a table at rest needs.
 #[derive(Clone, Copy)]
@@ -35,6 +36,14 @@ impl Capacity {
         } else {
             Err(Refusal::FigureOutOfLimits)
         }
+    }
+}
+
+impl fmt::Display for Capacity {
+    ghost output = { λ c. Some (figures_text c) };
+
+    fn fmt<W: fmt::Write>(&self, f: &mut fmt::Formatter<W>) -> fmt::Result {
+        write!(f, "pairs={} cells={}", self.pairs, self.cells)
     }
 }
 

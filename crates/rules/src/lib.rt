@@ -28,7 +28,8 @@ pub enum Ask {
     Cut,
 }
 
-// What a seat will do at its next turn.
+// What a seat will do at its next turn. A plain word of its record, and no closure, since a board may be pulled between any
+// two turns; what a phase needs lies beside it in fixed memory.
 #[derive(Clone, Copy)]
 pub enum Phase {
     // No call is open.
@@ -68,7 +69,8 @@ pub struct NewCell {
     pub main: u16,
 }
 
-// The cells from the root to the one that the seat has come to; the last one's index is `depth`.
+// The cells from the root to the one that the seat has come to; the last one's index is `depth`. An array and no Vec, as in
+// `Pending` and `Table`: the records are plain numbers in fixed memory.
 #[derive(Clone, Copy)]
 pub struct Path {
     pub cells: [u16; 8],

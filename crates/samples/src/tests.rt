@@ -50,7 +50,7 @@ fn the_code_gives_the_sample_figures(rt: HostRuntime) -> Result<(), Fail> {
 fn cells_beside_one(rt: &(impl Abort + AllocGlobal), other: u64) -> Result<u32, Fail> {
     let needs = capacity_for(rt.alloc(), &[Card(1), Card(other), Card(1)])?;
     assert_eq!(rt; needs.pairs, 2);
-    Ok((needs.cells & 0xFFFF) as u32)
+    Ok(u32::try_from(needs.cells)?)
 }
 
 // What every bank of three cells does, whatever it lies in.

@@ -1,10 +1,10 @@
 -- Nodes that are made whole: what stands at every chunk of each, and that they are well formed.
 use Rattle.std.proofs.Common.{ℕ, ◌<◌, cond, eqb, ◌≢◌, Some, sym, ap, ◌∙◌, arith}
 use lib.ListN.{length-replicate}
+use Rattle.std.proofs.lemmas.Nat.Bits.{bit_at-zero}
 use Rattle.mains.specs.Nodes.{filler, empty_node, of_one, of_two}
 use Rattle.mains.specs.Laws.{WellFormed, Stands, Alone, Both, nothing}
 use Rattle.mains.specs.declared.Branch.{Branch}
-use Rattle.mains.proofs.Bits.{bit_zero}
 use Rattle.mains.proofs.Standing.{at_clear, edited_other}
 use Rattle.mains.proofs.Edits.{inserted_formed, inserted_stands}
 
@@ -12,7 +12,7 @@ pub empty_formed : WellFormed empty_node
 empty_formed = record { fits = omega arith; row = length-replicate 32 filler }
 
 pub empty_stands : Stands empty_node nothing
-empty_stands p = at_clear empty_node p (bit_zero p)
+empty_stands p = at_clear empty_node p (bit_at-zero p)
 
 pub one_formed : (q : ℕ) (x : Branch) → WellFormed (of_one q x)
 one_formed q x = inserted_formed empty_node q x empty_formed

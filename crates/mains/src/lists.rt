@@ -24,78 +24,66 @@ impl PairList {
     }
 
     // How many pairs are listed.
+    #[tactic(auto, using(crate::proofs::Listings::length_listed))]
     pub fn len(&self) -> usize
         ensures value { result ≡ length (listed self.now) }
         ensures most { result ≤ 32 }
     {
-        (self.count as usize).min(MOST_PAIRS)
+        usize::from(self.count).min(MOST_PAIRS)
     }
 
     // The pairs, in order.
+    #[tactic(auto, using(std::proofs::lemmas::List::take_min, crate::proofs::Listings::length_listed))]
     pub fn as_slice(&self) -> &[u16]
         ensures { result.now ≡ listed self.now }
     {
-        &self.pairs[0..self.len()]
+        &self.pairs[..self.len()]
     }
 
     // The pair at a place, if the list has one there.
     pub fn at(&self, place: usize) -> Option<u16>
         ensures { result ≡ slice_get (listed self.now) place }
     {
-        if place < self.len() {
-            Some(self.pairs[place])
-        } else {
-            None
-        }
+        self.as_slice().get(place).copied()
     }
 
     // The list with one more pair at its end; a full list stays as it is.
-    pub fn appended(self, pair: u16) -> PairList
+    #[tactic(auto, using(crate::proofs::Contracts::appends))]
+    pub fn appended(mut self, pair: u16) -> PairList
         ensures value { result ≡ appended self pair }
         ensures law { self.count < 32 → Relists self (listed self ++ (pair ∷ [])) result }
     {
-        let len = self.count as usize;
-        if len >= MOST_PAIRS {
-            return self;
+        let len = usize::from(self.count);
+        if len < MOST_PAIRS {
+            self.pairs[len] = pair;
+            self.count += 1;
         }
-        let mut pairs = self.pairs;
-        pairs[len] = pair;
-        PairList {
-            count: self.count + 1,
-            pairs,
-        }
+        self
     }
 
     // The list with another pair at a place; a place past its end changes nothing.
-    pub fn replaced(self, place: usize, pair: u16) -> PairList
+    #[tactic(auto, using(crate::proofs::Contracts::relists))]
+    pub fn replaced(mut self, place: usize, pair: u16) -> PairList
         ensures value { result ≡ relisted self place pair }
         ensures law { Relists self (slice_set (listed self) place pair) result }
     {
-        if place >= self.len() {
-            return self;
+        if place < self.len() {
+            self.pairs[place] = pair;
         }
-        let mut pairs = self.pairs;
-        pairs[place] = pair;
-        PairList {
-            count: self.count,
-            pairs,
-        }
+        self
     }
 
     // The list without the pair at a place, the others in order; a place past its end changes nothing.
-    pub fn removed(self, place: usize) -> PairList
+    #[tactic(auto, using(crate::proofs::Contracts::unlists))]
+    pub fn removed(mut self, place: usize) -> PairList
         ensures value { result ≡ unlisted self place }
         ensures law { Relists self (remove (listed self) place) result }
     {
         let len = self.len();
-        if place >= len {
-            return self;
+        if place < len {
+            take_out(&mut self.pairs, place, 0);
+            self.count = (len - 1) as u8;
         }
-        let mut pairs = self.pairs;
-        take_out(&mut pairs, place, 0);
-        PairList {
-            count: (len - 1) as u8,
-            pairs,
-        }
+        self
     }
 }

@@ -32,6 +32,7 @@ impl Node {
     }
 
     // Whether a chunk has a branch.
+    #[tactic(auto, using(crate::proofs::Bits::has_flagged, crate::proofs::Bits::has_low))]
     pub fn has(&self, chunk: u32) -> bool
         ensures value { result ≡ has self.now.bitmap chunk }
         ensures low { result ≡ true → chunk < 32 }
@@ -47,6 +48,7 @@ impl Node {
     }
 
     // How many branches there are. `fits` hands on what the type says of the bitmap to callers that do not read it.
+    #[tactic(auto, using(crate::proofs::Positions::position_all))]
     pub fn size(&self) -> u32
         ensures value { result ≡ size self.now }
         ensures fits { self.now.bitmap < 2 ^ 32 }
@@ -55,6 +57,7 @@ impl Node {
     }
 
     // How many lower chunks have a branch: the place of a chunk's own branch.
+    #[tactic(auto, using(crate::proofs::Positions::position_flagged, crate::proofs::Positions::flagged_low, crate::proofs::Positions::position_last))]
     pub fn position(&self, chunk: u32) -> u32
         ensures value { result ≡ position self.now.bitmap chunk }
         ensures low { result ≤ chunk }
@@ -70,62 +73,49 @@ impl Node {
     pub fn at(&self, chunk: u32) -> Option<Branch>
         ensures { result ≡ branch_at self.now chunk }
     {
-        if self.has(chunk) {
-            Some(self.branches[self.position(chunk) as usize])
-        } else {
-            None
-        }
+        self.has(chunk)
+            .then(|| self.branches[self.position(chunk) as usize])
     }
 
     // The node with a branch at a chunk that has none; any other chunk changes nothing.
-    pub fn inserted(self, chunk: u32, branch: Branch) -> Node
+    #[tactic(auto, using(crate::proofs::Contracts::inserts))]
+    pub fn inserted(mut self, chunk: u32, branch: Branch) -> Node
         ensures value { result ≡ inserted self chunk branch }
         ensures law { Inserts self chunk branch result }
     {
-        if !self.is_free(chunk) {
-            return self;
+        if self.is_free(chunk) {
+            let place = self.position(chunk) as usize;
+            put_in(&mut self.branches, place, branch);
+            self.bitmap |= flag(chunk);
         }
-        let place = self.position(chunk) as usize;
-        let mut branches = self.branches;
-        put_in(&mut branches, place, branch);
-        Node {
-            bitmap: self.bitmap | flag(chunk),
-            branches,
-        }
+        self
     }
 
     // The node with another branch at a chunk that has one; any other chunk changes nothing.
-    pub fn replaced(self, chunk: u32, branch: Branch) -> Node
+    #[tactic(auto, using(crate::proofs::Contracts::replaces))]
+    pub fn replaced(mut self, chunk: u32, branch: Branch) -> Node
         ensures value { result ≡ replaced self chunk branch }
         ensures law { Replaces self chunk branch result }
     {
-        if !self.has(chunk) {
-            return self;
+        if self.has(chunk) {
+            let place = self.position(chunk) as usize;
+            self.branches[place] = branch;
         }
-        let place = self.position(chunk) as usize;
-        let mut branches = self.branches;
-        branches[place] = branch;
-        Node {
-            bitmap: self.bitmap,
-            branches,
-        }
+        self
     }
 
     // The node without the branch at a chunk; a chunk that has none changes nothing.
-    pub fn removed(self, chunk: u32) -> Node
+    #[tactic(auto, using(crate::proofs::Contracts::removes))]
+    pub fn removed(mut self, chunk: u32) -> Node
         ensures value { result ≡ removed self chunk }
         ensures law { Removes self chunk result }
     {
-        if !self.has(chunk) {
-            return self;
+        if self.has(chunk) {
+            let place = self.position(chunk) as usize;
+            take_out(&mut self.branches, place, Branch::Pair(0));
+            self.bitmap ^= flag(chunk);
         }
-        let place = self.position(chunk) as usize;
-        let mut branches = self.branches;
-        take_out(&mut branches, place, Branch::Pair(0));
-        Node {
-            bitmap: self.bitmap ^ flag(chunk),
-            branches,
-        }
+        self
     }
 
     // The node whose one branch is a cell.
@@ -149,14 +139,11 @@ impl Node {
     }
 
     // The only branch, if there is exactly one.
+    #[tactic(auto, using(crate::proofs::Singles::lone_at))]
     pub fn lone(&self) -> Option<Branch>
         ensures value { result ≡ lone self.now }
         ensures sole { Lone self.now result }
     {
-        if self.size() == 1 {
-            Some(self.branches[0])
-        } else {
-            None
-        }
+        (self.size() == 1).then_some(self.branches[0])
     }
 }

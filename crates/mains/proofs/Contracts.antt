@@ -7,9 +7,13 @@ use Rattle.mains.specs.Laws.{WellFormed, Inserts, Replaces, Removes, Relists}
 use Rattle.mains.specs.declared.Branch.{Branch}
 use Rattle.mains.specs.declared.Node.{Node}
 use Rattle.mains.specs.declared.PairList.{PairList}
+use Rattle.std.proofs.lemmas.List.{take_min}
+use Rattle.mains.proofs.Bits.{has_flagged, has_low}
+use Rattle.mains.proofs.Positions.{position_all, position_flagged, flagged_low, position_last}
+use Rattle.mains.proofs.Singles.{lone_at}
 use Rattle.mains.proofs.Edits.{inserted_stands, inserted_formed, replaced_stands, replaced_formed, removed_stands, removed_formed}
 use Rattle.mains.proofs.Sizes.{size_inserted, size_replaced, size_removed}
-use Rattle.mains.proofs.Listings.{listed_appended, appended_formed, listed_relisted, relisted_formed, listed_unlisted, unlisted_formed}
+use Rattle.mains.proofs.Listings.{length_listed, listed_appended, appended_formed, listed_relisted, relisted_formed, listed_unlisted, unlisted_formed}
 
 pub inserts : (n : Node) (q : ℕ) (x : Branch) (m : Node) → n.bitmap < 2 ^ 32 → length n.branches ≡ 32 → m ≡ inserted n q x → Inserts n q x m
 inserts n q x m fits row e =
@@ -37,3 +41,8 @@ relists l i p m e = subst (Relists l (set (listed l) i p)) (sym e) (record { lis
 
 pub unlists : (l : PairList) (i : ℕ) (m : PairList) → m ≡ unlisted l i → Relists l (without (listed l) i) m
 unlists l i m e = subst (Relists l (without (listed l) i)) (sym e) (record { lists = listed_unlisted l i; formed = unlisted_formed l i })
+
+-- What the checks of the functions on nodes and on lists are given.
+pub ruleset of_nodes = (has_flagged, has_low, position_all, position_flagged, flagged_low, position_last, inserts, replaces, removes, lone_at)
+
+pub ruleset of_lists = (take_min, length_listed, appends, relists, unlists)

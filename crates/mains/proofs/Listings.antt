@@ -1,9 +1,8 @@
 -- Lists of pairs: what is listed after each edit, and that a list stays well formed.
-use Rattle.std.proofs.Common.{◌≡◌, ℕ, ◌-◌, ◌<◌, ◌≤◌, min, ltb, [], ◌∷◌, ◌++◌, List, length, take, set, sym, refl, ap, ◌∙◌, arith, length-set, length-take, rules}
+use Rattle.std.proofs.Common.{◌≡◌, ℕ, ◌-◌, ◌<◌, ◌≤◌, min, [], ◌∷◌, ◌++◌, List, length, take, set, refl, arith, length-set, length-take, rules}
 use lib.Seq.{take-set-lt}
 use Rattle.std.specs.List.{remove}
 use Rattle.std.proofs.lemmas.List.{same_lists, places, take_more_set, set_past, take_all, take_min, drop_all, append-nil}
-use Rattle.std.proofs.lemmas.Bool.{cond_both, ltb-true, ltb-false}
 use Rattle.std.proofs.lemmas.Bool.Decides.{nat_tests}
 use Rattle.mains.specs.Rows.{take_out}
 use Rattle.mains.specs.Lists.{listed, appended, relisted, unlisted, of_pairs}

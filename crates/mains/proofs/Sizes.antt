@@ -1,5 +1,5 @@
 -- How an edit changes how many branches a node has.
-use Rattle.std.proofs.Common.{◌≡◌, ℕ, ◌+◌, ◌<◌, true, None, sym, refl, arith}
+use Rattle.std.proofs.Common.{◌≡◌, ℕ, ◌+◌, ◌<◌, true, None, sym, refl}
 use Rattle.std.proofs.lemmas.Bool.{cond_both, cond-true}
 use Rattle.mains.specs.Bits.{has, position}
 use Rattle.mains.specs.Nodes.{branch_at, is_free, grown, changed, shrunk, inserted, replaced, removed, size}
@@ -8,7 +8,7 @@ use Rattle.mains.specs.declared.Branch.{Branch}
 use Rattle.mains.specs.declared.Node.{Node}
 use Rattle.mains.proofs.Bits.{set_bit, clear_bit, flag_low}
 use Rattle.mains.proofs.Positions.{position_before}
-use Rattle.mains.proofs.Gains.{Gains, position_beyond, gains_or, gains_xor}
+use Rattle.mains.proofs.Gains.{position_beyond, gains_or, gains_xor}
 use Rattle.mains.proofs.Standing.{has_none}
 use Rattle.mains.proofs.Edits.{free_from, has_low}
 

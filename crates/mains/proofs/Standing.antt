@@ -1,8 +1,7 @@
 -- What stands at a chunk, and when two nodes have the same there.
 use Rattle.std.proofs.Common.{◌≡◌, ℕ, ◌≤◌, true, false, ◌≢◌, get_or, Some, None, Option, arith}
-use Rattle.std.proofs.lemmas.Bool.{cases_eq}
 use Rattle.std.proofs.lemmas.Bool.Decides.{nat_tests}
-use Rattle.std.proofs.lemmas.Nat.Bits.{bit_at-lt, bit_at_above}
+use Rattle.std.proofs.lemmas.Nat.Bits.{bit_at_above}
 use Rattle.std.proofs.lemmas.Option.{cond_some}
 use Rattle.mains.specs.Bits.{bit, has, position}
 use Rattle.mains.specs.Nodes.{branch_at, filler}

@@ -6,7 +6,7 @@ mod nodes;
 mod rows;
 
 // What stands at a chunk of a branch node: a pair or a cell, by its number.
-#[derive(Clone, Copy)]
+#[derive(Clone, Copy, Debug, PartialEq, Eq)]
 pub enum Branch {
     Pair(u16),
     Cell(u16),

@@ -10,6 +10,7 @@ use crate::rows::take_out;
 // The most pairs that a list holds.
 const MOST_PAIRS: usize = 32;
 
+#[tactic(auto, using(crate::proofs::Contracts::of_lists))]
 impl PairList {
     // The list of two pairs.
     pub fn of_pairs(first: u16, second: u16) -> PairList
@@ -24,7 +25,6 @@ impl PairList {
     }
 
     // How many pairs are listed.
-    #[tactic(auto, using(crate::proofs::Listings::length_listed))]
     pub fn len(&self) -> usize
         ensures value { result ≡ length (listed self.now) }
         ensures most { result ≤ 32 }
@@ -33,7 +33,6 @@ impl PairList {
     }
 
     // The pairs, in order.
-    #[tactic(auto, using(std::proofs::lemmas::List::take_min, crate::proofs::Listings::length_listed))]
     pub fn as_slice(&self) -> &[u16]
         ensures { result.now ≡ listed self.now }
     {
@@ -48,7 +47,6 @@ impl PairList {
     }
 
     // The list with one more pair at its end; a full list stays as it is.
-    #[tactic(auto, using(crate::proofs::Contracts::appends))]
     pub fn appended(mut self, pair: u16) -> PairList
         ensures value { result ≡ appended self pair }
         ensures law { self.count < 32 → Relists self (listed self ++ (pair ∷ [])) result }
@@ -62,7 +60,6 @@ impl PairList {
     }
 
     // The list with another pair at a place; a place past its end changes nothing.
-    #[tactic(auto, using(crate::proofs::Contracts::relists))]
     pub fn replaced(mut self, place: usize, pair: u16) -> PairList
         ensures value { result ≡ relisted self place pair }
         ensures law { Relists self (slice_set (listed self) place pair) result }
@@ -74,7 +71,6 @@ impl PairList {
     }
 
     // The list without the pair at a place, the others in order; a place past its end changes nothing.
-    #[tactic(auto, using(crate::proofs::Contracts::unlists))]
     pub fn removed(mut self, place: usize) -> PairList
         ensures value { result ≡ unlisted self place }
         ensures law { Relists self (remove (listed self) place) result }

@@ -18,6 +18,7 @@ fn flag(chunk: u32) -> u32
     if chunk < CHUNKS { 1 << chunk } else { 0 }
 }
 
+#[tactic(auto, using(crate::proofs::Contracts::of_nodes))]
 impl Node {
     // The node without branches.
     pub fn empty() -> Node
@@ -32,7 +33,6 @@ impl Node {
     }
 
     // Whether a chunk has a branch.
-    #[tactic(auto, using(crate::proofs::Bits::has_flagged, crate::proofs::Bits::has_low))]
     pub fn has(&self, chunk: u32) -> bool
         ensures value { result ≡ has self.now.bitmap chunk }
         ensures low { result ≡ true → chunk < 32 }
@@ -48,7 +48,6 @@ impl Node {
     }
 
     // How many branches there are. `fits` hands on what the type says of the bitmap to callers that do not read it.
-    #[tactic(auto, using(crate::proofs::Positions::position_all))]
     pub fn size(&self) -> u32
         ensures value { result ≡ size self.now }
         ensures fits { self.now.bitmap < 2 ^ 32 }
@@ -57,7 +56,6 @@ impl Node {
     }
 
     // How many lower chunks have a branch: the place of a chunk's own branch.
-    #[tactic(auto, using(crate::proofs::Positions::position_flagged, crate::proofs::Positions::flagged_low, crate::proofs::Positions::position_last))]
     pub fn position(&self, chunk: u32) -> u32
         ensures value { result ≡ position self.now.bitmap chunk }
         ensures low { result ≤ chunk }
@@ -78,7 +76,6 @@ impl Node {
     }
 
     // The node with a branch at a chunk that has none; any other chunk changes nothing.
-    #[tactic(auto, using(crate::proofs::Contracts::inserts))]
     pub fn inserted(mut self, chunk: u32, branch: Branch) -> Node
         ensures value { result ≡ inserted self chunk branch }
         ensures law { Inserts self chunk branch result }
@@ -92,7 +89,6 @@ impl Node {
     }
 
     // The node with another branch at a chunk that has one; any other chunk changes nothing.
-    #[tactic(auto, using(crate::proofs::Contracts::replaces))]
     pub fn replaced(mut self, chunk: u32, branch: Branch) -> Node
         ensures value { result ≡ replaced self chunk branch }
         ensures law { Replaces self chunk branch result }
@@ -105,7 +101,6 @@ impl Node {
     }
 
     // The node without the branch at a chunk; a chunk that has none changes nothing.
-    #[tactic(auto, using(crate::proofs::Contracts::removes))]
     pub fn removed(mut self, chunk: u32) -> Node
         ensures value { result ≡ removed self chunk }
         ensures law { Removes self chunk result }
@@ -139,7 +134,6 @@ impl Node {
     }
 
     // The only branch, if there is exactly one.
-    #[tactic(auto, using(crate::proofs::Singles::lone_at))]
     pub fn lone(&self) -> Option<Branch>
         ensures value { result ≡ lone self.now }
         ensures sole { Lone self.now result }

@@ -21,6 +21,3 @@ flag_low q low = grind (arith, nat_tests)
 -- A chunk's bit is set exactly if its flag leaves something of the bitmap.
 pub has_flagged : (b q f : ℕ) → b < 2 ^ 32 → f ≡ flag q → not (eqb (bit_and b f) 0) ≡ has b q
 has_flagged b q f fits e = grind (arith, nat_tests, and_zero_r b, and_pow b q, bit_at-lt b q, bit_at_above b 32 q, pow_pos q)
-
-pub has_low : (b q : ℕ) → b < 2 ^ 32 → has b q ≡ true → q < 32
-has_low b q fits e = bit_low b q fits (set_bit b q e)

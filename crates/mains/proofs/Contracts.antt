@@ -8,7 +8,7 @@ use Rattle.mains.specs.declared.Branch.{Branch}
 use Rattle.mains.specs.declared.Node.{Node}
 use Rattle.mains.specs.declared.PairList.{PairList}
 use Rattle.std.proofs.lemmas.List.{take_min}
-use Rattle.mains.proofs.Bits.{has_flagged, has_low}
+use Rattle.mains.proofs.Bits.{has_flagged, set_bit, bit_low}
 use Rattle.mains.proofs.Positions.{position_all, position_flagged, flagged_low, position_last}
 use Rattle.mains.proofs.Singles.{lone_at}
 use Rattle.mains.proofs.Edits.{inserted_stands, inserted_formed, replaced_stands, replaced_formed, removed_stands, removed_formed}
@@ -43,6 +43,6 @@ pub unlists : (l : PairList) (i : ℕ) (m : PairList) → m ≡ unlisted l i →
 unlists l i m e = subst (Relists l (without (listed l) i)) (sym e) (record { lists = listed_unlisted l i; formed = unlisted_formed l i })
 
 -- What the checks of the functions on nodes and on lists are given.
-pub ruleset of_nodes = (has_flagged, has_low, position_all, position_flagged, flagged_low, position_last, inserts, replaces, removes, lone_at)
+pub ruleset of_nodes = (has_flagged, set_bit, bit_low, position_all, position_flagged, flagged_low, position_last, inserts, replaces, removes, lone_at)
 
 pub ruleset of_lists = (take_min, length_listed, appends, relists, unlists)

@@ -2,26 +2,26 @@
 use Rattle.std.proofs.Common.{◌≡◌, ℕ, ◌^◌, ◌<◌, true, not, ltb, ◌≢◌, length, Some, None, refl, ◌∙◌, sym, arith, length-set, get_or-set_other, get_or-set_same}
 use lib.Bits.{or_lt, xor_lt}
 use Rattle.std.proofs.lemmas.Nat.{pow_below}
-use Rattle.std.proofs.lemmas.Bool.{cases_eq, cases_order, cond_both, cond-true, and_parts, ltb-true}
+use Rattle.std.proofs.lemmas.Bool.{cases_eq, cases_order, cond_both, and_parts, ltb-true}
 use Rattle.std.proofs.lemmas.Bool.Decides.{nat_tests}
 use Rattle.mains.specs.Bits.{has, position, flag}
 use Rattle.mains.specs.Nodes.{branch_at, filler, is_free, grown, changed, shrunk, inserted, replaced, removed}
 use Rattle.mains.specs.Laws.{WellFormed, Stands, edited}
 use Rattle.mains.specs.declared.Branch.{Branch}
 use Rattle.mains.specs.declared.Node.{Node}
-use Rattle.mains.proofs.Bits.{bit_low, set_bit, clear_bit, flag_low}
+use Rattle.mains.proofs.Bits.{bit_low, set_bit, clear_bit}
 use Rattle.mains.proofs.Positions.{position_within, position_before, position_grows, position_apart}
 use Rattle.mains.proofs.Gains.{Gains, position_upto, position_beyond, gains_or, gains_xor}
 use Rattle.mains.proofs.Shifts.{Opens, length_in, length_out, in_at, in_opens, out_opens}
-use Rattle.mains.proofs.Standing.{at_set, at_clear, at_same, has_none, stands_from}
+use Rattle.mains.proofs.Standing.{at_set, at_clear, at_same, none_clear, stands_from}
 
 -- The branch of a chunk has its place in the row.
 placed : (n : Node) (q : ℕ) → WellFormed n → q < 32 → position n.bitmap q < length n.branches
 placed n q w low = omega (arith, w.row, position_within n.bitmap q)
 
 -- One of the 32 chunks can take a branch if it has none; no other can.
-pub free_from : (n : Node) (q : ℕ) → q < 32 → branch_at n q ≡ None → is_free n q ≡ true
-free_from n q low e = grind (arith, nat_tests, has_none n q e)
+pub grows : (n : Node) (q : ℕ) (x : Branch) → q < 32 → branch_at n q ≡ None → inserted n q x ≡ grown n q x
+grows n q x low none = grind (arith, nat_tests)
 
 pub free_low : (n : Node) (q : ℕ) → is_free n q ≡ true → q < 32
 free_low n q t = ltb-true q 32 (and_parts (ltb q 32) (not (has n.bitmap q)) t).0
@@ -79,9 +79,9 @@ inserted_stands n q x w low none =
     let i = position b q in
     let m = grown n q x in
     let within = placed n q w low in
-    let g : Gains b q m.bitmap = rw (flag_low q low) (gains_or b q (clear_bit b q (has_none n q none))) in
+    let g = gains_or b q low (none_clear n q none) in
     let here : branch_at m q ≡ Some x = grind (arith, at_set m q g.raised, position_upto b q m.bitmap q g, in_at n.branches i x within filler) in
-    rw (cond-true (is_free n q) m n (free_from n q low none))
+    rw (grows n q x low none)
     (stands_from m (branch_at n) q (Some x) here (beside n m q i (grown_formed n q x w low) g refl (in_opens n.branches i x within filler)))
 
 pub replaced_stands : (n : Node) (q : ℕ) (x : Branch) → WellFormed n → has n.bitmap q ≡ true → Stands (replaced n q x) (edited (branch_at n) q (Some x))
@@ -96,7 +96,7 @@ removed_stands n q w =
     cond_both (has b q) m n (λ k. Stands k (edited (branch_at n) q None))
     (λ t.
     let low = has_low n q w t in
-    let g : Gains m.bitmap q b = rw (flag_low q low) (gains_xor b q (set_bit b q t)) in
+    let g = gains_xor b q low (set_bit b q t) in
     let opens = out_opens n.branches (position b q) filler (placed n q w low) filler in
     let same = position_upto m.bitmap q b q g (omega arith) in
     stands_from m (branch_at n) q None (at_clear m q g.clear) (λ p ne. sym (beside m n q (position b q) w g same opens p ne)))

@@ -3,7 +3,8 @@ use Rattle.std.proofs.Common.{◌≡◌, ℕ, zero, suc, ◌+◌, ◌^◌, ◌<�
 use lib.Bits.{bit_or, bit_xor}
 use Rattle.std.proofs.lemmas.Bool.{cases_eq}
 use Rattle.std.proofs.lemmas.Nat.Bits.{bit_at-lt, bit_at_or, bit_at_xor, bit_at-pow_same, bit_at-pow_other}
-use Rattle.mains.specs.Bits.{bit, position}
+use Rattle.mains.specs.Bits.{bit, position, flag}
+use Rattle.mains.proofs.Bits.{flag_low}
 use Rattle.mains.proofs.Positions.{position_zero, position_suc}
 
 -- The bit of a chunk is clear in the first bitmap and set in the second; all others are the same.
@@ -22,18 +23,20 @@ position_beyond b q c zero g l = absurd (omega arith)
 position_beyond b q c (suc p) g l =
     grind (arith, position_suc, g.others p, g.clear, g.raised, position_upto b q c p g, position_beyond b q c p g, cases_eq p q)
 
-pub gains_or : (b q : ℕ) → bit b q ≡ 0 → Gains b q (bit_or b (2 ^ q))
-gains_or b q e =
-    record {
+pub gains_or : (b q : ℕ) → q < 32 → bit b q ≡ 0 → Gains b q (bit_or b (flag q))
+gains_or b q low e =
+    rw (flag_low q low)
+    (record {
       clear = e;
       raised = omega (arith, bit_at_or b (2 ^ q) q, bit_at-pow_same q);
       others = λ p ne. omega (arith, bit_at_or b (2 ^ q) p, bit_at-pow_other q p ne);
-    }
+    })
 
-pub gains_xor : (c q : ℕ) → bit c q ≡ 1 → Gains (bit_xor c (2 ^ q)) q c
-gains_xor c q e =
-    record {
+pub gains_xor : (c q : ℕ) → q < 32 → bit c q ≡ 1 → Gains (bit_xor c (flag q)) q c
+gains_xor c q low e =
+    rw (flag_low q low)
+    (record {
       clear = omega (arith, bit_at_xor c (2 ^ q) q, bit_at-pow_same q);
       raised = e;
       others = λ p ne. omega (arith, bit_at_xor c (2 ^ q) p, bit_at-pow_other q p ne, bit_at-lt c p);
-    }
+    })

@@ -39,8 +39,8 @@ pub chunk_there : (b n i : ℕ) → i < position b n → (q : ℕ) × (q < n) ×
 chunk_there b zero i h = absurd (omega (arith, position_zero b))
 chunk_there b (suc n) i h =
     elim (cases_lt i (position b n)) [
-      inl l ↦ (let r = chunk_there b n i l in (r.0, omega (arith, r.1), r.2, r.3))
-    | inr m ↦ (let s = position_suc b n in let d = bit_at-lt b n in (n, omega arith, omega arith, omega arith))
+      | inl l ↦ (let r = chunk_there b n i l in (r.0, omega (arith, r.1), r.2, r.3))
+      | inr m ↦ (let s = position_suc b n in let d = bit_at-lt b n in (n, omega arith, omega arith, omega arith))
     ]
 
 -- Past the last bit positions no longer grow.

@@ -1,24 +1,20 @@
 -- The lone branch of a node: it is there exactly if one chunk has it and no other has any.
-use Rattle.std.proofs.Common.{◌≡◌, ℕ, ◌^◌, ◌<◌, eqb, ◌≢◌, get_or, Some, Option, sym, ap, ◌∙◌, subst, arith, ◌+◌}
+use Rattle.std.proofs.Common.{◌≡◌, ℕ, ◌^◌, ◌<◌, eqb, get_or, Some, Option, sym, subst, arith}
 use Rattle.std.proofs.lemmas.Bool.{eqb-true}
 use Rattle.std.proofs.lemmas.Bool.Decides.{nat_tests}
 use Rattle.std.proofs.lemmas.Nat.Bits.{bit_at-lt, bit_at-zero}
 use Rattle.std.proofs.lemmas.Option.{cond_some}
-use Rattle.mains.specs.Bits.{bit, position}
-use Rattle.mains.specs.Nodes.{filler, size, lone}
+use Rattle.mains.specs.Bits.{position}
+use Rattle.mains.specs.Nodes.{branch_at, filler, size, lone}
 use Rattle.mains.specs.Laws.{Alone, Lone, nothing}
 use Rattle.mains.specs.declared.Branch.{Branch}
 use Rattle.mains.specs.declared.Node.{Node}
-use Rattle.mains.proofs.Bits.{bit_low, set_bit, clear_bit}
+use Rattle.mains.proofs.Bits.{bit_low}
 use Rattle.mains.proofs.Positions.{position_none, position_before, position_apart, chunk_there}
 use Rattle.mains.proofs.Gains.{Gains, position_upto, position_beyond}
-use Rattle.mains.proofs.Standing.{at_set, at_clear, has_some, has_none, at_some, stands_from, edited_here, edited_other}
+use Rattle.mains.proofs.Standing.{at_set, at_clear, stands_from}
 
--- Where one bit is set in all, every other is clear.
-one_bit : (b q p : ℕ) → b < 2 ^ 32 → position b 32 ≡ 1 → bit b q ≡ 1 → p ≢ q → bit b p ≡ 0
-one_bit b q p fits one s ne =
-    grind (arith, bit_at-lt b p, bit_low b q fits s, bit_low b p fits, position_before b q 32 s, position_before b p 32, position_apart b p q)
-
+-- Where one bit is set in all, some chunk has it, and every other bit is clear.
 found : (n : Node) (x : Branch) → n.bitmap < 2 ^ 32 → lone n ≡ Some x → (q : ℕ) × Alone n q x
 found n x fits e =
     let b = n.bitmap in
@@ -26,27 +22,20 @@ found n x fits e =
     let one : position b 32 ≡ 1 = eqb-true (size n) 1 told.0 in
     let there = chunk_there b 32 0 (omega arith) in
     let q = there.0 in
-    let here = at_set n q there.2 ∙ ap Some (ap (λ i. get_or n.branches i filler) there.3 ∙ told.1) in
-    (q, stands_from n nothing q (Some x) here (λ p ne. at_clear n p (one_bit b q p fits one there.2 ne)))
+    let here : branch_at n q ≡ Some x = grind (arith, at_set n q there.2, there.3, told.1) in
+    (q, stands_from n nothing q (Some x) here (λ p ne. at_clear n p (grind (arith, bit_at-lt b p, bit_low b p fits, position_before b q 32 there.2 there.1, position_before b p 32, position_apart b p q, there.2))))
 
 -- A node with one branch has one bit more than none.
-gains_alone : (n : Node) (q : ℕ) (x : Branch) → Alone n q x → Gains 0 q n.bitmap
-gains_alone n q x a =
-    record {
-      clear = bit_at-zero q;
-      raised = set_bit n.bitmap q (has_some n q x (a q ∙ edited_here nothing q (Some x)));
-      others = λ p ne. clear_bit n.bitmap p (has_none n p (a p ∙ edited_other nothing q (Some x) p ne)) ∙ sym (bit_at-zero p);
-    }
-
 sole : (n : Node) (q : ℕ) (x : Branch) → n.bitmap < 2 ^ 32 → Alone n q x → lone n ≡ Some x
 sole n q x fits a =
     let b = n.bitmap in
-    let g = gains_alone n q x a in
-    let low = bit_low b q fits g.raised in
-    let first = position_upto 0 q b q g (omega arith) ∙ position_none q in
-    let one = position_beyond 0 q b 32 g low ∙ ap (λ k. k + 1) (position_none 32) in
-    let is = at_some n q x (a q ∙ edited_here nothing q (Some x)) in
-    grind (arith, nat_tests)
+    let g : Gains 0 q b =
+    record {
+      clear = bit_at-zero q;
+      raised = grind (arith, nat_tests, a q);
+      others = λ p ne. grind (arith, nat_tests, a p, bit_at-lt b p, bit_at-zero p);
+    } in
+    grind (arith, nat_tests, a q, bit_low b q fits g.raised, position_upto 0 q b q g, position_beyond 0 q b 32 g, position_none q, position_none 32)
 
 pub lone_is : (n : Node) → n.bitmap < 2 ^ 32 → Lone n (lone n)
 lone_is n fits = record { found = λ x e. found n x fits e; sole = λ q x a. sole n q x fits a }

@@ -1,7 +1,7 @@
 -- What stands at a chunk, and when two nodes have the same there.
 use Rattle.std.proofs.Common.{◌≡◌, ℕ, ◌≤◌, true, false, ◌≢◌, get_or, Some, None, Option, arith}
 use Rattle.std.proofs.lemmas.Bool.Decides.{nat_tests}
-use Rattle.std.proofs.lemmas.Nat.Bits.{bit_at_above}
+use Rattle.std.proofs.lemmas.Nat.Bits.{bit_at-lt, bit_at_above}
 use Rattle.std.proofs.lemmas.Option.{cond_some}
 use Rattle.mains.specs.Bits.{bit, has, position}
 use Rattle.mains.specs.Nodes.{branch_at, filler}
@@ -26,11 +26,8 @@ some_not_none e = cc
 pub has_some : (n : Node) (q : ℕ) (x : Branch) → branch_at n q ≡ Some x → has n.bitmap q ≡ true
 has_some n q x e = (cond_some (has n.bitmap q) (get_or n.branches (position n.bitmap q) filler) x e).0
 
-pub at_some : (n : Node) (q : ℕ) (x : Branch) → branch_at n q ≡ Some x → get_or n.branches (position n.bitmap q) filler ≡ x
-at_some n q x e = (cond_some (has n.bitmap q) (get_or n.branches (position n.bitmap q) filler) x e).1
-
-pub has_none : (n : Node) (q : ℕ) → branch_at n q ≡ None → has n.bitmap q ≡ false
-has_none n q e = grind (arith, nat_tests)
+pub none_clear : (n : Node) (q : ℕ) → branch_at n q ≡ None → bit n.bitmap q ≡ 0
+none_clear n q e = grind (arith, nat_tests, bit_at-lt n.bitmap q)
 
 pub none_has : (n : Node) (q : ℕ) → has n.bitmap q ≡ false → branch_at n q ≡ None
 none_has n q e = grind (arith, nat_tests)

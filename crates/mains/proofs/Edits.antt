@@ -1,19 +1,19 @@
 -- The edits of a node: what stands at every chunk after each, and that the node stays well formed.
-use Rattle.std.proofs.Common.{◌≡◌, ℕ, ◌^◌, ◌<◌, true, not, ltb, ◌≢◌, length, Some, None, refl, ◌∙◌, sym, arith, length-set, get_or-set_other, get_or-set_same}
+use Rattle.std.proofs.Common.{◌≡◌, ℕ, ◌^◌, ◌<◌, true, ◌≢◌, length, Some, None, refl, sym, arith, length-set, get_or-set_other, get_or-set_same}
 use lib.Bits.{or_lt, xor_lt}
 use Rattle.std.proofs.lemmas.Nat.{pow_below}
-use Rattle.std.proofs.lemmas.Bool.{cases_eq, cases_order, cond_both, and_parts, ltb-true}
+use Rattle.std.proofs.lemmas.Bool.{cases_eq, cases_order, cond_both}
 use Rattle.std.proofs.lemmas.Bool.Decides.{nat_tests}
-use Rattle.mains.specs.Bits.{has, position, flag}
-use Rattle.mains.specs.Nodes.{branch_at, filler, is_free, grown, changed, shrunk, inserted, replaced, removed}
+use Rattle.mains.specs.Bits.{bit, has, position, flag}
+use Rattle.mains.specs.Nodes.{branch_at, filler, is_free, grown, shrunk, inserted, replaced, removed}
 use Rattle.mains.specs.Laws.{WellFormed, Stands, edited}
 use Rattle.mains.specs.declared.Branch.{Branch}
 use Rattle.mains.specs.declared.Node.{Node}
-use Rattle.mains.proofs.Bits.{bit_low, set_bit, clear_bit}
+use Rattle.mains.proofs.Bits.{bit_low, set_bit}
 use Rattle.mains.proofs.Positions.{position_within, position_before, position_grows, position_apart}
 use Rattle.mains.proofs.Gains.{Gains, position_upto, position_beyond, gains_or, gains_xor}
 use Rattle.mains.proofs.Shifts.{Opens, length_in, length_out, in_at, in_opens, out_opens}
-use Rattle.mains.proofs.Standing.{at_set, at_clear, at_same, none_clear, stands_from}
+use Rattle.mains.proofs.Standing.{at_set, at_clear, none_has, none_clear, stands_from}
 
 -- The branch of a chunk has its place in the row.
 placed : (n : Node) (q : ℕ) → WellFormed n → q < 32 → position n.bitmap q < length n.branches
@@ -24,7 +24,7 @@ pub grows : (n : Node) (q : ℕ) (x : Branch) → q < 32 → branch_at n q ≡ N
 grows n q x low none = grind (arith, nat_tests)
 
 pub free_low : (n : Node) (q : ℕ) → is_free n q ≡ true → q < 32
-free_low n q t = ltb-true q 32 (and_parts (ltb q 32) (not (has n.bitmap q)) t).0
+free_low n q t = grind (arith, nat_tests)
 
 -- A chunk that has a branch is one of the 32.
 pub has_low : (n : Node) (q : ℕ) → WellFormed n → has n.bitmap q ≡ true → q < 32
@@ -34,31 +34,22 @@ has_low n q w t = bit_low n.bitmap q w.fits (set_bit n.bitmap q t)
 flag_fits : (q : ℕ) → flag q < 2 ^ 32
 flag_fits q = grind (arith, nat_tests, pow_below q 32)
 
-grown_formed : (n : Node) (q : ℕ) (x : Branch) → WellFormed n → q < 32 → WellFormed (grown n q x)
-grown_formed n q x w low =
-    record {
-      fits = or_lt 32 n.bitmap (flag q) w.fits (flag_fits q);
-      row = length_in n.branches (position n.bitmap q) x (placed n q w low) ∙ w.row;
-    }
-
-shrunk_formed : (n : Node) (q : ℕ) → WellFormed n → q < 32 → WellFormed (shrunk n q)
-shrunk_formed n q w low =
-    record {
-      fits = xor_lt 32 n.bitmap (flag q) w.fits (flag_fits q);
-      row = length_out n.branches (position n.bitmap q) filler (placed n q w low) ∙ w.row;
-    }
-
 pub inserted_formed : (n : Node) (q : ℕ) (x : Branch) → WellFormed n → WellFormed (inserted n q x)
-inserted_formed n q x w = cond_both (is_free n q) (grown n q x) n WellFormed (λ t. grown_formed n q x w (free_low n q t)) (λ _. w)
+inserted_formed n q x w =
+    record {
+      fits = grind (arith, nat_tests, w.fits, or_lt 32 n.bitmap (flag q) w.fits (flag_fits q));
+      row = grind (arith, nat_tests, w.row, placed n q w, length_in n.branches (position n.bitmap q) x);
+    }
 
 pub replaced_formed : (n : Node) (q : ℕ) (x : Branch) → WellFormed n → WellFormed (replaced n q x)
-replaced_formed n q x w =
-    cond_both (has n.bitmap q) (changed n q x) n WellFormed
-    (λ _. record { fits = w.fits; row = length-set n.branches (position n.bitmap q) x ∙ w.row })
-    (λ _. w)
+replaced_formed n q x w = record { fits = grind (arith, nat_tests, w.fits); row = grind (arith, nat_tests, w.row, length-set) }
 
 pub removed_formed : (n : Node) (q : ℕ) → WellFormed n → WellFormed (removed n q)
-removed_formed n q w = cond_both (has n.bitmap q) (shrunk n q) n WellFormed (λ t. shrunk_formed n q w (has_low n q w t)) (λ _. w)
+removed_formed n q w =
+    record {
+      fits = grind (arith, nat_tests, w.fits, xor_lt 32 n.bitmap (flag q) w.fits (flag_fits q));
+      row = grind (arith, nat_tests, w.row, has_low n q w, placed n q w, length_out n.branches (position n.bitmap q) filler);
+    }
 
 -- Of two nodes one has one chunk more, and in its row one branch more at that chunk's position: all other chunks have the same.
 beside : (n m : Node) (q i : ℕ) → WellFormed m → Gains n.bitmap q m.bitmap → i ≡ position n.bitmap q → Opens filler n.branches m.branches i
@@ -66,11 +57,8 @@ beside : (n m : Node) (q i : ℕ) → WellFormed m → Gains n.bitmap q m.bitmap
 beside n m q i w g e o p ne =
     let b = n.bitmap in
     let c = m.bitmap in
-    let same = g.others p ne in
-    let j = position b p in
-    at_same n m p same
-    (λ s.
-    grind (arith, cases_order p q, position_upto b q c p g, position_beyond b q c p g, position_before b p q, position_grows b q p, placed m p w (bit_low c p w.fits (same ∙ s)), o.below j, o.above j))
+    let there = λ (s : bit c p ≡ 1). placed m p w (bit_low c p w.fits s) in
+    grind (arith, nat_tests, cases_order p q, g.others p ne, position_upto b q c p g, position_beyond b q c p g, position_before b p q, position_grows b q p, there, o.below (position b p), o.above (position b p))
 
 -- What stands after each edit.
 pub inserted_stands : (n : Node) (q : ℕ) (x : Branch) → WellFormed n → q < 32 → branch_at n q ≡ None → Stands (inserted n q x) (edited (branch_at n) q (Some x))
@@ -82,7 +70,7 @@ inserted_stands n q x w low none =
     let g = gains_or b q low (none_clear n q none) in
     let here : branch_at m q ≡ Some x = grind (arith, at_set m q g.raised, position_upto b q m.bitmap q g, in_at n.branches i x within filler) in
     rw (grows n q x low none)
-    (stands_from m (branch_at n) q (Some x) here (beside n m q i (grown_formed n q x w low) g refl (in_opens n.branches i x within filler)))
+    (stands_from m (branch_at n) q (Some x) here (beside n m q i (rw (grows n q x low none) at (inserted_formed n q x w)) g refl (in_opens n.branches i x within filler)))
 
 pub replaced_stands : (n : Node) (q : ℕ) (x : Branch) → WellFormed n → has n.bitmap q ≡ true → Stands (replaced n q x) (edited (branch_at n) q (Some x))
 replaced_stands n q x w t p =
@@ -100,4 +88,4 @@ removed_stands n q w =
     let opens = out_opens n.branches (position b q) filler (placed n q w low) filler in
     let same = position_upto m.bitmap q b q g (omega arith) in
     stands_from m (branch_at n) q None (at_clear m q g.clear) (λ p ne. sym (beside m n q (position b q) w g same opens p ne)))
-    (λ f. stands_from n (branch_at n) q None (at_clear n q (clear_bit b q f)) (λ p _. refl))
+    (λ f. stands_from n (branch_at n) q None (none_has n q f) (λ p _. refl))

@@ -32,12 +32,6 @@ none_clear n q e = grind (arith, nat_tests, bit_at-lt n.bitmap q)
 pub none_has : (n : Node) (q : ℕ) → has n.bitmap q ≡ false → branch_at n q ≡ None
 none_has n q e = grind (arith, nat_tests)
 
--- Two nodes have the same at a chunk that has the same bit in both and, if it is set, the same element at its position.
-pub at_same : (n m : Node) (p : ℕ) → bit m.bitmap p ≡ bit n.bitmap p
-    → (bit n.bitmap p ≡ 1 → get_or m.branches (position m.bitmap p) filler ≡ get_or n.branches (position n.bitmap p) filler)
-    → branch_at m p ≡ branch_at n p
-at_same n m p e f = grind (arith, nat_tests)
-
 -- What is told otherwise of one chunk, read there and elsewhere.
 pub edited_here : (f : ℕ → Option Branch) (q : ℕ) (o : Option Branch) → edited f q o q ≡ o
 edited_here f q o = grind (arith, nat_tests)

@@ -5,21 +5,24 @@ mod lists;
 mod nodes;
 mod rows;
 
-// What stands at a chunk of a branch node: a pair or a cell, by its number.
+// What stands at a chunk of a branch node: a pair or a cell, by its number, and no Box: the memory is fixed, and all boards
+// share it.
 #[derive(Clone, Copy, Debug, PartialEq, Eq)]
 pub enum Branch {
     Pair(u16),
     Cell(u16),
 }
 
-// A branch node: which of the chunks 0 to 31 have a branch, and their branches, packed in chunk order.
+// A branch node: which of the chunks 0 to 31 have a branch, and their branches, packed in chunk order. An array and no Vec,
+// and no invariant: a main lies in fixed memory, which may hold any.
 #[derive(Clone, Copy)]
 pub struct Node {
     pub bitmap: u32,
     pub branches: [Branch; 32],
 }
 
-// Up to 32 pairs, in order, by their numbers; those past `count` mean nothing.
+// Up to 32 pairs, in order, by their numbers; those past `count` mean nothing. An array and no Vec, and no invariant, as in
+// `Node`.
 #[derive(Clone, Copy)]
 pub struct PairList {
     pub count: u8,

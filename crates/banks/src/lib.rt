@@ -7,10 +7,12 @@ ghost use Rattle.banks.specs.Words.{read_answer, swap_answer, swapped, put_answe
 
 mod bytes;
 mod joined;
+mod lent;
 mod words;
 
 pub use bytes::ByteBank;
 pub use joined::JoinedBank;
+pub use lent::LentBank;
 use panel::Refusal;
 pub use words::WordBank;
 

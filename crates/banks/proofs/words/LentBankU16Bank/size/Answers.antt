@@ -1,5 +1,5 @@
 use Rattle.std.proofs.Common.{ℕ, arith, length-take}
-use Rattle.banks.proofs.words.WordBankBank.size.Goals as goal
+use Rattle.banks.proofs.words.LentBankU16Bank.size.Goals as goal
 
 pub returns : goal.returns
 returns c = record { answer = omega (arith, length-take {A = ℕ} 65535) }

@@ -39,7 +39,7 @@ pub enum Refusal {
 }
 
 impl Refusal {
-    // The number that the panel shows; no other refusal has it.
+    // The number that the panel shows; no other refusal has it. A name of its own, since `u8::from` would not say which number.
     pub fn number(self) -> u8
         ensures value { result ≡ number self }
         ensures alone { (other : Refusal) → number other ≡ result → other ≡ self }

@@ -87,9 +87,9 @@ fn bytes_lie_high_first(rt: HostRuntime) {
 #[test]
 fn codes_are_one_to_eight_presses(rt: HostRuntime) {
     for text in ["", "123456789", "12a", "1 2", "12-"] {
-        assert_eq!(rt; Code::try_from(text.as_bytes()).is_err(), true, "{}", text);
+        assert!(rt; Code::try_from(text.as_bytes()).is_err(), "{}", text);
     }
     for text in ["0", "*", "#", "12345678", "*12#*12#"] {
-        assert_eq!(rt; Code::try_from(text.as_bytes()).is_ok(), true, "{}", text);
+        assert!(rt; Code::try_from(text.as_bytes()).is_ok(), "{}", text);
     }
 }

@@ -24,6 +24,7 @@ impl<'a> TryFrom<&'a [u8]> for Code {
             return Err(Refusal::CodeMisread);
         }
         let mut stored = [0u8; 8];
+        // By index: zipped with its places the line would be no plainer, and the fault planted in it needs the first place.
         for (i, byte) in bytes.iter().enumerate() {
             stored[i] = press(char::from(*byte)).ok_or(Refusal::CodeMisread)?;
         }
@@ -63,7 +64,7 @@ pub fn fnv_1a(bytes: &[u8]) -> u32
     )
 }
 
-// Codes are equal if they are the same presses in the same order.
+// Codes are equal if they are the same presses in the same order. Not derived: the bytes past the presses take no part.
 impl PartialEq for Code {
     ghost eq = { λ a b. bytes_eq (presses_of a) (presses_of b) };
 

@@ -39,6 +39,15 @@ impl<A: Bank, B: Bank> Bank for JoinedBank<A, B> {
         }
     }
 
+    // The half's own swap, which may be one step of its bus.
+    fn swap(&mut self, cell: usize, old: u16, new: u16) -> Result<bool, Refusal> {
+        inside(cell, self.size())?;
+        match cell.checked_sub(self.first.size()) {
+            None => self.first.swap(cell, old, new),
+            Some(rest) => self.second.swap(rest, old, new),
+        }
+    }
+
     fn put(&mut self, cell: usize, word: u16) -> Result<(), Refusal> {
         inside(cell, self.size())?;
         match cell.checked_sub(self.first.size()) {

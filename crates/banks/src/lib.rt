@@ -37,7 +37,7 @@ pub trait Bank {
     fn read(&self, cell: usize) -> Result<u16, Refusal>
         ensures answer { result ≡ read_answer (words self.now) cell };
 
-    // Writes `new` if the cell holds `old`, and tells whether it did.
+    // Writes `new` if the cell holds `old`, and tells whether it did. A bank whose bus does this in one step writes its own.
     fn swap(&mut self, cell: usize, old: u16, new: u16) -> Result<bool, Refusal>
         ensures answer { result ≡ swap_answer (words self.old) cell old }
         ensures after { words self.new ≡ swapped (words self.old) cell old new }

@@ -1,15 +1,14 @@
 -- Every run by exact turns keeps the rules, and without a withdrawal, at rest, it has no tomb and is compact.
 use mathlib.Core.Path.{◌≡◌, refl, sym, ◌∙◌, subst}
-use mathlib.Core.Bool.{Bool, true, false}
+use mathlib.Core.Bool.{Bool, false}
 use mathlib.Core.List.{List}
 use mathlib.Core.Option.{none}
 use Prim.Native.Nat.{ℕ}
 use native.Mathlib.Omega.{arith}
-use lib.ListN.{get_or}
-use Rattle.machine.specs.Machine.{Branch, nothing, node, word, main, idle, State, seat, Entry, add, Formatted, Moves, Step}
+use Rattle.machine.specs.Machine.{node, word, main, idle, State, seat, Entry, add, Formatted, Moves, Step}
 use Rattle.machine.proofs.Split.{no_pair}
 use Rattle.machine.proofs.Inv.{Inv}
-use Rattle.machine.proofs.Turns.{by_seat, begins, keeps}
+use Rattle.machine.proofs.Turns.{by_seat, only_root, begins, keeps}
 use Rattle.machine.specs.Rules.{NodeRule, Kept, NoTombs}
 use Rattle.machine.proofs.Chunk.{Chunks}
 use Rattle.machine.specs.Turn.{Turns, Owned}
@@ -17,38 +16,26 @@ use Rattle.machine.specs.AtRest.{Rested}
 use Rattle.machine.proofs.Laws.{Laws}
 use Rattle.machine.proofs.Sound.{rests_compact}
 use Rattle.machine.proofs.Own.{Owning}
-use Rattle.machine.proofs.Owning.{turn_step, owning_keeps, owning_begins, only_root}
+use Rattle.machine.proofs.Owning.{turn_step, owning_keeps, owning_begins}
 use Rattle.machine.proofs.Lawful.{PendRule, Lawful, lawful_keeps}
 
 module _ {K : Type 0} (same : K → K → Bool) (hash : K → ℕ) (chunk : ℕ → ℕ → ℕ) where
-  -- An empty branch node at the root keeps the rules.
-  empty_rule : (bs : List Branch) → ((q : ℕ) → get_or bs q nothing ≡ nothing) → NodeRule 0 bs
-  empty_rule bs f = record {
-    high = omega arith;
-    chunks = λ q t. absurd (rw (f q) at t);
-    any = λ p. absurd (omega arith);
-    beside = λ p. absurd (omega arith);
-  }
-
-  -- So the rules hold at the start.
+  -- An empty branch node at the root keeps the rules, so they hold at the start.
   lawful_begins : (s : State K) → Formatted s → Lawful same hash chunk s.mem s.seats
-  lawful_begins s f = record {
-    ruled = λ h i c w. let o = only_root same hash chunk s f h i c w in
-        subst (λ (d : ℕ). Kept same s.mem.pairs i (main s.mem (word s.mem d))) (sym o.1) (rw (o.0, f.root.1) root);
-    pends = λ t. rw (f.idles t) tt;
-  }
-    where
-      root : Kept same s.mem.pairs 0 (node f.root.0)
-      root = record { rule = empty_rule f.root.0 f.root.2; inside = λ p h. absurd (no_pair (sym (f.root.2 h.0) ∙ h.1)) }
+  lawful_begins s f =
+      let rule : NodeRule 0 f.root.0 = record { high = omega arith; chunks = λ q t. absurd (rw (f.root.2 q) at t); any = λ p. absurd (omega arith); beside = λ p. absurd (omega arith) } in
+      let root : Kept same s.mem.pairs 0 (node f.root.0) = record { rule = rule; inside = λ p h. absurd (no_pair (sym (f.root.2 h.0) ∙ h.1)) } in
+      record {
+        ruled = λ h i c w. let o = only_root same hash chunk s f h i c w in
+            subst (λ (d : ℕ). Kept same s.mem.pairs i (main s.mem (word s.mem d))) (sym o.1) (rw (o.0, f.root.1) root);
+        pends = λ t. rw (f.idles t) tt;
+      }
 
   -- All that holds after a run; the owners only where no call was withdrawn.
   pub record All (b : Bool) (es : List (Entry K)) (s : State K) : Type 0 where
     pub inv : Inv same hash chunk es s
     owning : b ≡ false → Owning same hash chunk s.mem s.seats
     pub lawful : Lawful same hash chunk s.mem s.seats
-
-  clashes : true ≡ false → ⊥
-  clashes e = let z : ◌≡◌ {A = ℕ} 0 1 = cc in omega arith
 
   -- It holds after every run.
   pub always : Laws same hash → Chunks chunk → (b : Bool) (es : List (Entry K)) (s : State K) → Turns same hash chunk b es s → All b es s
@@ -65,7 +52,7 @@ module _ {K : Type 0} (same : K → K → Bool) (hash : K → ℕ) (chunk : ℕ 
       let i = always laws chunks b' es r run in
       record {
         inv = keeps same hash chunk laws es r s none (Step.moves t idle r.ticks l (omega arith) (Moves.rest (seat r t))) i.inv;
-        owning = λ x. absurd (clashes x);
+        owning = λ x. cc;
         lawful = record { ruled = i.lawful.ruled; pends = λ u. by_seat r.seats t u idle (PendRule same hash chunk r.mem) l (λ e. tt) (λ e. i.lawful.pends u) };
       }
 
@@ -75,12 +62,7 @@ module _ {K : Type 0} (same : K → K → Bool) (hash : K → ℕ) (chunk : ℕ 
 
   -- With no call open a tomb would have no owner.
   pub at_rest : Laws same hash → Chunks chunk → (es : List (Entry K)) (s : State K) → Turns same hash chunk false es s → ((t : ℕ) → seat s t ≡ idle) → Rested same hash chunk s
-  at_rest laws chunks es s run rest = record { no_tombs = none_there; compact = rests_compact same hash laws chunk s.mem i.inv.shape i.lawful.ruled none_there chunks }
-    where
-      i : All false es s
-      i = always laws chunks false es s run
-
-      none_there : NoTombs chunk s.mem
-      none_there h j c w z =
-          let o = owners laws chunks es s run h j c w z in
-          rw (rest o.0) at o.1
+  at_rest laws chunks es s run rest =
+      let i : All false es s = always laws chunks false es s run in
+      let none_there : NoTombs chunk s.mem = λ h j c w z. let o = owners laws chunks es s run h j c w z in rw (rest o.0) at o.1 in
+      record { no_tombs = none_there; compact = rests_compact same hash laws chunk s.mem i.inv.shape i.lawful.ruled none_there chunks }

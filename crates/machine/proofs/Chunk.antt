@@ -15,13 +15,11 @@ pub record Chunks (chunk : ℕ → ℕ → ℕ) : Type 0 where
 -- A chunk before index i is told by the low 5 × i bits.
 chunk_low : (n j i : ℕ) → j < i → chunk_at n j ≡ chunk_at (n % 2 ^ (5 * i)) j
 chunk_low n j i l =
+    let e : (5 * i - (5 + 5 * j)) + (5 + 5 * j) ≡ 5 * i = omega arith in
     sym (field n 5 (5 * j))
     ∙ ap (λ (x : ℕ). x / 2 ^ (5 * j)) (sym (mod-mod-pow n (5 * i - (5 + 5 * j)) (5 + 5 * j)))
     ∙ ap (λ (x : ℕ). n % 2 ^ x % 2 ^ (5 + 5 * j) / 2 ^ (5 * j)) e
     ∙ field (n % 2 ^ (5 * i)) 5 (5 * j)
-  where
-    e : (5 * i - (5 + 5 * j)) + (5 + 5 * j) ≡ 5 * i
-    e = omega arith
 
 -- So it is with the chunks of five bits.
 pub chunks : Chunks chunk_at

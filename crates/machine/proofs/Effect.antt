@@ -50,20 +50,18 @@ module _ {K : Type 0} (same : K → K → Bool) (hash : K → ℕ) (chunk : ℕ 
         → ((k : K) → ¬ Agree chunk (hash k) h₀ a → (x : Option (K × ℕ)) → R k x x)
         → ((k : K) → Agree chunk (hash k) h₀ a → Local same hash chunk M N c a k (R k))
         → (k : K) → R k (lookup_pair same hash chunk M k) (lookup_pair same hash chunk N k)
-    swap_effect R far near k = go (agree? chunk (hash k) h₀ a)
-      where
-        by : Agree chunk (hash k) h₀ a → Local same hash chunk M N c a k (R k) → R k (lookup_pair same hash chunk M k) (lookup_pair same hash chunk N k)
-        by ag (kept e r) = rw (swap_lookup_kept same hash chunk M N one h₀ a c reached but k e) (r (lookup_pair same hash chunk M k))
-        by ag (changed ps qs x y r) =
+    swap_effect R far near k = elim (agree? chunk (hash k) h₀ a) [
+      | yes ag ↦ elim (near k ag) [
+        | kept e r ↦ rw (swap_lookup_kept same hash chunk M N one h₀ a c reached but k e) (r (lookup_pair same hash chunk M k))
+        | changed ps qs x y r ↦
             rw (
               lookup_ends M k ps c a (walk_agree chunk M (hash k) h₀ a ag ∙ reached) x,
               lookup_ends N k qs c a (swap_walk_here same hash chunk M N one h₀ a c reached but (hash k) ag) y,
             )
             r
-
-        go : Dec (Agree chunk (hash k) h₀ a) → R k (lookup_pair same hash chunk M k) (lookup_pair same hash chunk N k)
-        go (yes ag) = by ag (near k ag)
-        go (no na) = rw (swap_lookup_apart same hash chunk M N one h₀ a c reached but k na) (far k na (lookup_pair same hash chunk M k))
+      ]
+      | no na ↦ rw (swap_lookup_apart same hash chunk M N one h₀ a c reached but k na) (far k na (lookup_pair same hash chunk M k))
+    ]
 
 -- Where every walk was a walk before, each cell still stands for one prefix.
 pub prefixed_shrink : {K : Type 0} (chunk : ℕ → ℕ → ℕ) (M N : Tree K)

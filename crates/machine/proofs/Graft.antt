@@ -44,53 +44,51 @@ module _ {K : Type 0} (hash : K → ℕ) (chunk : ℕ → ℕ → ℕ) (M N : Tr
   pub walked_back : (h i d : ℕ) → walk chunk N h i ≡ some d → (walk chunk M h i ≡ some d) ⊎ New h i d
   unfolding walk
   walked_back h zero d w = inl w
-  walked_back h (suc i) d w = go (walked_back h i b.0 b.1) (ℕ_discrete b.0 c)
-    where
-      b : (e : ℕ) × (walk chunk N h i ≡ some e) × (N e (chunk h i) ≡ on d)
-      b = walk_back chunk N h i d w
-
-      at_c : walk chunk M h i ≡ some c → (M c (chunk h i) ≡ on d) ⊎ ((chunk h i ≡ chunk h₀ a) × (nth ns 0 ≡ some d))
-          → (walk chunk M h (suc i) ≡ some d) ⊎ New h (suc i) d
-      at_c v (inl x) = inl (walk_on chunk M h i c d v x)
-      at_c v (inr x) =
-          let p : i ≡ a = one.index h h₀ i a c v g.reached in
-          inr (record {
-            place = 0;
-            is = x.1;
-            index = omega arith;
-            agrees = agree_suc chunk h h₀ i (one.chunks h h₀ i a c v g.reached) (rw p (rw p at x.0));
-          })
-
-      go : (walk chunk M h i ≡ some b.0) ⊎ New h i b.0 → Dec (b.0 ≡ c) → (walk chunk M h (suc i) ≡ some d) ⊎ New h (suc i) d
-      go (inl v) (no ne) = inl (walk_on chunk M h i b.0 d v (sym (g.but b.0 ne (chunk h i)) ∙ b.2))
-      go (inl v) (yes e) = at_c (rw e at v) (g.named (chunk h i) d (rw e at b.2))
-      go (inr v) (yes e) = absurd (g.new v.place c h₀ a (rw e at v.is) g.reached)
-      go (inr v) (no ne) =
-          let f = g.chain v.place b.0 (chunk h i) d v.is (sym (g.but b.0 ne (chunk h i)) ∙ b.2) in
-          inr (record {
-            place = suc v.place;
-            is = f.1;
-            index = omega (arith, v.index);
-            agrees = agree_suc chunk h h₀ i v.agrees (rw v.index (rw v.index at f.0));
-          })
+  walked_back h (suc i) d w =
+      let b = walk_back chunk N h i d w in
+      elim (walked_back h i b.0 b.1) [
+        | inl v ↦ elim (ℕ_discrete b.0 c) [
+          | no ne ↦ inl (walk_on chunk M h i b.0 d v (sym (g.but b.0 ne (chunk h i)) ∙ b.2))
+          | yes e ↦
+              let v' : walk chunk M h i ≡ some c = rw e at v in
+              elim (g.named (chunk h i) d (rw e at b.2)) [
+                | inl x ↦ inl (walk_on chunk M h i c d v' x)
+                | inr x ↦
+                    let p : i ≡ a = one.index h h₀ i a c v' g.reached in
+                    inr (record {
+                      place = 0;
+                      is = x.1;
+                      index = omega arith;
+                      agrees = agree_suc chunk h h₀ i (one.chunks h h₀ i a c v' g.reached) (rw p (rw p at x.0));
+                    })
+              ]
+        ]
+        | inr v ↦ elim (ℕ_discrete b.0 c) [
+          | yes e ↦ absurd (g.new v.place c h₀ a (rw e at v.is) g.reached)
+          | no ne ↦
+              let f = g.chain v.place b.0 (chunk h i) d v.is (sym (g.but b.0 ne (chunk h i)) ∙ b.2) in
+              inr (record {
+                place = suc v.place;
+                is = f.1;
+                index = omega (arith, v.index);
+                agrees = agree_suc chunk h h₀ i v.agrees (rw v.index (rw v.index at f.0));
+              })
+        ]
+      ]
 
   -- A walk of M is a walk of N, or it ends in a cell that was cut off.
   pub walked_on : (h i e : ℕ) → walk chunk M h i ≡ some e → (walk chunk N h i ≡ some e) ⊎ Dead e
   unfolding walk
   walked_on h zero e w = inl w
-  walked_on h (suc i) e w = go (walked_on h i b.0 b.1) (ℕ_discrete b.0 c)
-    where
-      b : (d : ℕ) × (walk chunk M h i ≡ some d) × (M d (chunk h i) ≡ on e)
-      b = walk_back chunk M h i e w
-
-      at_c : walk chunk N h i ≡ some c → (N c (chunk h i) ≡ on e) ⊎ Dead e → (walk chunk N h (suc i) ≡ some e) ⊎ Dead e
-      at_c v (inl x) = inl (walk_on chunk N h i c e v x)
-      at_c v (inr x) = inr x
-
-      go : (walk chunk N h i ≡ some b.0) ⊎ Dead b.0 → Dec (b.0 ≡ c) → (walk chunk N h (suc i) ≡ some e) ⊎ Dead e
-      go (inl v) (no ne) = inl (walk_on chunk N h i b.0 e v (g.but b.0 ne (chunk h i) ∙ b.2))
-      go (inl v) (yes p) = at_c (rw p at v) (g.kept (chunk h i) e (rw p at b.2))
-      go (inr x) d = absurd (clash (sym (g.barren b.0 x (chunk h i)).1 ∙ b.2))
+  walked_on h (suc i) e w =
+      let b = walk_back chunk M h i e w in
+      elim (walked_on h i b.0 b.1) [
+        | inl v ↦ elim (ℕ_discrete b.0 c) [
+          | no ne ↦ inl (walk_on chunk N h i b.0 e v (g.but b.0 ne (chunk h i) ∙ b.2))
+          | yes p ↦ elim (g.kept (chunk h i) e (rw p at b.2)) [ inl x ↦ inl (walk_on chunk N h i c e (rw p at v) x) | inr x ↦ inr x ]
+        ]
+        | inr x ↦ absurd (clash (sym (g.barren b.0 x (chunk h i)).1 ∙ b.2))
+      ]
 
   agree_trans : (h x y i : ℕ) → Agree chunk h y i → Agree chunk x y i → Agree chunk h x i
   agree_trans h x y i p q j l = p j l ∙ sym (q j l)
@@ -112,11 +110,6 @@ module _ {K : Type 0} (hash : K → ℕ) (chunk : ℕ → ℕ → ℕ) (M N : Tr
           let e : i ≡ j = omega (arith, v.index, w.index) in
           (e, agree_trans h k h₀ i v.agrees (rw e w.agrees))
 
-  -- A cell other than c that was flat is flat.
-  flatter : (d q i : ℕ) (x : K × ℕ) → d ≢ c → (chunk (hash x.0) i ≡ q) ⊎ FlatM d → (chunk (hash x.0) i ≡ q) ⊎ FlatN d
-  flatter d q i x ne (inl e) = inl e
-  flatter d q i x ne (inr e) = inr (g.flat d ne e)
-
   -- Every pair of N is at home.
   pub placed_graft : Placed hash chunk M FlatM → Placed hash chunk N FlatN
   placed_graft f h i d q ps x w e m = go (walked_back h i d w) (ℕ_discrete d c)
@@ -124,7 +117,7 @@ module _ {K : Type 0} (hash : K → ℕ) (chunk : ℕ → ℕ → ℕ) (M N : Tr
       go : (walk chunk M h i ≡ some d) ⊎ New h i d → Dec (d ≡ c) → Home hash chunk (FlatN d) h i q x
       go (inl v) (no ne) =
           let z = f h i d q ps x v (sym (g.but d ne q) ∙ e) m in
-          record { agrees = z.agrees; proper = flatter d q i x ne z.proper }
+          record { agrees = z.agrees; proper = elim z.proper [ inl y ↦ inl y | inr y ↦ inr (g.flat d ne y) ] }
       go (inl v) (yes p) =
           let v' : walk chunk M h i ≡ some c = rw p at v in
           let ia : i ≡ a = one.index h h₀ i a c v' g.reached in
@@ -136,7 +129,4 @@ module _ {K : Type 0} (hash : K → ℕ) (chunk : ℕ → ℕ → ℕ) (M N : Tr
       go (inr v) (yes p) = absurd (g.new v.place c h₀ a (rw p at v.is) g.reached)
       go (inr v) (no ne) =
           let z = g.homes_new v.place d q ps x v.is (sym (g.but d ne q) ∙ e) m in
-          record {
-            agrees = agree_trans (hash x.0) h h₀ i (rw v.index z.agrees) v.agrees;
-            proper = rw v.index z.proper;
-          }
+          record { agrees = agree_trans (hash x.0) h h₀ i (rw v.index z.agrees) v.agrees; proper = rw v.index z.proper }

@@ -8,7 +8,7 @@ use Prim.Native.Nat.{ℕ, ◌<◌, ◌≤◌}
 use lib.Dec.{T}
 use lib.ListN.{length, get_or}
 use Rattle.machine.specs.Tree.{Spot, stands, on, walk, Prefixed, nth, Placed}
-use Rattle.machine.specs.Machine.{tomb, IsTomb, IsFlat, HasPair, HasCell, Mem, face, word, main, view, Op, get, put, renew, cut, cutting, climb, key, Seat, idle, read, swap, parent, clean, State, Expects, MakesMain, MakesPair, MakesCell, Entry}
+use Rattle.machine.specs.Machine.{tomb, IsTomb, IsFlat, HasPair, HasCell, Mem, face, word, main, view, Op, put, renew, cutting, key, Seat, idle, read, swap, parent, clean, State, Expects, MakesMain, MakesPair, MakesCell, Entry}
 use Rattle.machine.specs.Pairs.{StandsPair}
 use Rattle.machine.proofs.Ready.{Ready}
 
@@ -46,12 +46,10 @@ module _ {K : Type 0} (same : K → K → Bool) (hash : K → ℕ) (chunk : ℕ 
 
   -- What a swap of a call does to the lookup of a key l, from x to y.
   abbrev pub Does : Op K → K → Option (K × ℕ) → Option (K × ℕ) → Type 0
-  Does (get k) l x y = ⊥
   Does (put k v) l x y = y ≡ cond (same k l) (some (k, v)) x
   Does (renew k v) l x y = y ≡ cond (same k l) (some (k, v)) x
-  Does (cut k) l x y = ⊥
   Does (cutting k v) l x y = (y ≡ cond (same k l) none x) × (T (same k l) → (z : K × ℕ) × (x ≡ some z) × (z.1 ≡ v))
-  Does (climb k) l x y = ⊥
+  Does o l x y = ⊥
 
   -- What a cleaning swap does: nothing.
   abbrev pub Same : K → Option (K × ℕ) → Option (K × ℕ) → Type 0

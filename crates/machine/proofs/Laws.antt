@@ -1,6 +1,7 @@
 -- The laws of a key kind, said of the truth of the test, as the proofs use them.
-use mathlib.Core.Path.{◌≡◌, refl}
-use mathlib.Core.Bool.{Bool, true, false}
+use native.Mathlib.Omega.{arith}
+use mathlib.Core.Path.{◌≡◌}
+use mathlib.Core.Bool.{Bool, true}
 use Prim.Native.Nat.{ℕ}
 use lib.Dec.{T}
 use Rattle.keys.specs.Laws.{KeyLaws}
@@ -14,8 +15,7 @@ pub record Laws {K : Type 0} (same : K → K → Bool) (hash : K → ℕ) : Type
 
 -- Truth and equality with true are the same.
 pub is_true : (b : Bool) → T b → b ≡ true
-is_true true t = refl
-is_true false t = absurd t
+is_true b t = grind arith
 
 pub holds : (b : Bool) → b ≡ true → T b
 holds b e = rw e tt

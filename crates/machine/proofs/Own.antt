@@ -1,58 +1,43 @@
 -- Each reached tomb has an owner: what holds besides, and the turns that do not write.
-use mathlib.Core.Path.{◌≡◌, refl, sym, ◌∙◌, subst}
+use native.Mathlib.Omega.{arith}
+use mathlib.Core.Path.{◌≡◌, refl, sym, ap, ◌∙◌, subst}
 use mathlib.Core.Bool.{Bool}
 use mathlib.Core.List.{List, [], ◌∷◌}
-use mathlib.Core.Option.{Option, some}
+use mathlib.Core.Option.{some}
 use mathlib.Core.Logic.{◌⊎◌, inl, inr, ◌≢◌}
 use Prim.Native.Nat.{ℕ, suc, ◌<◌}
 use native.Mathlib.Decide.{ℕ_discrete}
 use lib.ListN.{length, get_or, set}
 use lib.Seq.{get_or-set_same, get_or-set_other}
 use Rattle.machine.specs.Tree.{on, walk, In, later, nth}
-use Rattle.machine.specs.Machine.{IsTomb, HasCell, Mem, word, main, view, Op, get, put, renew, cut, cutting, climb, key, plain, Seat, idle, read, swap, parent, clean, path, MakesCell}
+use Rattle.machine.specs.Machine.{IsTomb, HasCell, Mem, word, main, view, Op, climb, key, plain, Seat, idle, read, swap, parent, clean, path, MakesCell}
 use Rattle.machine.proofs.Walk.{some_is, walk_on, walk_back, root_is}
 use Rattle.machine.proofs.Inv.{SeatOK}
 use Rattle.machine.proofs.Keep.{is_reached}
 use Rattle.machine.proofs.Turns.{by_seat, tomb_pairs}
 use Rattle.machine.specs.Turn.{IsPlain, IsClimb, IsCutting, Settled, dropped, Goes, Owner, Owned}
-use Rattle.machine.proofs.Trail.{Whole, Trail, TrailOK}
-use Rattle.machine.proofs.Members.{in_one}
+use Rattle.machine.proofs.Trail.{Trail, TrailOK}
+use Rattle.machine.proofs.Members.{in_one, in_split}
 
 -- A call as it was opened has not settled.
 plain_climb : {K : Type 0} (o : Op K) → IsPlain o → IsClimb o → ⊥
-plain_climb (get k) p c = c
-plain_climb (put k v) p c = c
-plain_climb (renew k v) p c = c
-plain_climb (cut k) p c = c
-plain_climb (cutting k v) p c = c
-plain_climb (climb k) p c = p
+plain_climb o p c = grind arith
 
 pub climb_plain : {K : Type 0} (o : Op K) → IsClimb (plain o) → ⊥
-climb_plain (get k) c = c
-climb_plain (put k v) c = c
-climb_plain (renew k v) c = c
-climb_plain (cut k) c = c
-climb_plain (cutting k v) c = c
-climb_plain (climb k) c = c
+climb_plain o c = grind arith
 
 pub dropped_in : {K : Type 0} (k : K) (cs : List ℕ) (d : ℕ) → In d (path (dropped k cs)) → In d cs
-dropped_in k [] d j = elim j [ ]
-dropped_in k (c ∷ []) d j = elim j [ ]
-dropped_in k (c ∷ e ∷ cs) d j = j
+dropped_in k cs d j = grind arith
 
 pub dropped_makes : {K : Type 0} (k : K) (cs : List ℕ) (d : ℕ) → MakesCell (dropped k cs) d → ⊥
-dropped_makes k [] d j = j
-dropped_makes k (c ∷ []) d j = j
-dropped_makes k (c ∷ e ∷ cs) d j = j
+dropped_makes k cs d j = grind arith
 
 module _ {K : Type 0} (same : K → K → Bool) (hash : K → ℕ) (chunk : ℕ → ℕ → ℕ) where
   -- What a pending swap brings besides: a tomb comes of a cut below the root, no new cell holds a tomb, and a cleaning leaves no cell at the chunk.
   abbrev pub Extra : Mem K → Seat K → Type 0
-  Extra m idle = Unit {0}
-  Extra m (read o cs) = Unit {0}
   Extra m (swap o c cs e n mp new) = (IsTomb (main m n) → IsCutting o × (0 < length cs)) × ((t d x : ℕ) → nth new t ≡ some (d, x) → IsTomb (main m x) → ⊥)
-  Extra m (parent o b d cs) = Unit {0}
   Extra m (clean o b d c cs e n) = (IsTomb (main m n) → 0 < length cs) × ((f : ℕ) → HasCell (main m n) (chunk (hash (key o)) (length cs)) f → ⊥)
+  Extra m y = Unit {0}
 
   -- Each reached tomb lies on the path of an open settled cut, and what this rests on.
   pub record Owning (m : Mem K) (xs : List (Seat K)) : Type 0 where
@@ -65,25 +50,15 @@ module _ {K : Type 0} (same : K → K → Bool) (hash : K → ℕ) (chunk : ℕ 
 
   -- One seat is set.
   module _ (m m' : Mem K) (xs : List (Seat K)) (t : ℕ) (x : Seat K) (l : t < length xs) (i : Owning m xs) where
-    off_set : ((d : ℕ) → MakesCell x d → In d (path x) → ⊥)
-        → ((u d : ℕ) → u ≢ t → MakesCell x d → In d (path (get_or xs u idle)) → ⊥)
-        → ((u d : ℕ) → u ≢ t → MakesCell (get_or xs u idle) d → In d (path x) → ⊥)
-        → (u w d : ℕ) → MakesCell (get_or (set xs t x) u idle) d → In d (path (get_or (set xs t x) w idle)) → ⊥
-    off_set own mine theirs u w d =
-        by_seat xs t u x (λ y. MakesCell y d → In d (path (get_or (set xs t x) w idle)) → ⊥) l
-        (λ e. by_seat xs t w x (λ z. MakesCell x d → In d (path z) → ⊥) l (λ f. own d) (λ f. mine w d f))
-        (λ e. by_seat xs t w x (λ z. MakesCell (get_or xs u idle) d → In d (path z) → ⊥) l (λ f. theirs u d e) (λ f. i.off u w d))
-
     -- An owner stays, or the seat that turns becomes one.
     owner_new : (c : ℕ) → Settled x × In c (path x) → Owner (set xs t x) c
     owner_new c z = (t, rw (get_or-set_same xs t x idle l) z.0, rw (get_or-set_same xs t x idle l) z.1)
 
     owner_set : (c : ℕ) → (Settled (get_or xs t idle) → In c (path (get_or xs t idle)) → Settled x × In c (path x)) → Owner xs c → Owner (set xs t x) c
-    owner_set c f o = go (ℕ_discrete o.0 t)
-      where
-        go : Dec (o.0 ≡ t) → Owner (set xs t x) c
-        go (yes e) = owner_new c (f (rw e at o.1) (rw e at o.2))
-        go (no e) = (o.0, rw (get_or-set_other xs t o.0 x idle e) o.1, rw (get_or-set_other xs t o.0 x idle e) o.2)
+    owner_set c f o = elim (ℕ_discrete o.0 t) [
+      | yes e ↦ owner_new c (f (rw e at o.1) (rw e at o.2))
+      | no e ↦ (o.0, rw (get_or-set_other xs t o.0 x idle e) o.1, rw (get_or-set_other xs t o.0 x idle e) o.2)
+    ]
 
     -- The owners after it.
     pub owning_set : (IsTomb (main m' (word m' 0)) → ⊥)
@@ -99,24 +74,18 @@ module _ {K : Type 0} (same : K → K → Bool) (hash : K → ℕ) (chunk : ℕ 
       root_solid = r;
       trails = λ u. by_seat xs t u x (TrailOK same hash chunk m') l (λ e. tx) (ts u);
       extras = λ u. by_seat xs t u x (Extra m') l (λ e. ex) (es u);
-      off = off_set o1 o2 o3;
-      owned = λ h j c w z. go c (keep h j c w z) (has h j c w z);
+      off = λ u w d. by_seat xs t u x (λ y. MakesCell y d → In d (path (get_or (set xs t x) w idle)) → ⊥) l
+          (λ e. by_seat xs t w x (λ z. MakesCell x d → In d (path z) → ⊥) l (λ f. o1 d) (λ f. o2 w d f))
+          (λ e. by_seat xs t w x (λ z. MakesCell (get_or xs u idle) d → In d (path z) → ⊥) l (λ f. o3 u d e) (λ f. i.off u w d));
+      owned = λ h j c w z. elim (has h j c w z) [ inl o ↦ owner_set c (keep h j c w z) o | inr y ↦ owner_new c y ];
     }
-      where
-        go : (c : ℕ) → (Settled (get_or xs t idle) → In c (path (get_or xs t idle)) → Settled x × In c (path x)) → Owner xs c ⊎ (Settled x × In c (path x)) → Owner (set xs t x) c
-        go c f (inl o) = owner_set c f o
-        go c f (inr z) = owner_new c z
 
   -- A settled cut that drops the last cell still has every reached tomb of the rest.
   pub dropped_trail : (m : Mem K) (k : K) (cs : List ℕ) → Trail same hash chunk m k cs → TrailOK same hash chunk m (dropped k cs)
-  dropped_trail m k [] z = tt
-  dropped_trail m k (c ∷ []) z = tt
-  dropped_trail m k (c ∷ d ∷ cs) z = z
+  dropped_trail m k cs z = grind arith
 
   pub dropped_extra : (m : Mem K) (k : K) (cs : List ℕ) → Extra m (dropped k cs)
-  dropped_extra m k [] = tt
-  dropped_extra m k (c ∷ []) = tt
-  dropped_extra m k (c ∷ d ∷ cs) = tt
+  dropped_extra m k cs = grind arith
 
   pub dropped_keeps : (m : Mem K) → (IsTomb (main m (word m 0)) → ⊥) → (k : K) (cs : List ℕ) → Trail same hash chunk m k cs
       → (h i x : ℕ) → walk chunk (view m) h i ≡ some x → IsTomb (main m (word m x)) → In x cs → Settled (dropped k cs) × In x (path (dropped k cs))
@@ -146,13 +115,9 @@ module _ {K : Type 0} (same : K → K → Bool) (hash : K → ℕ) (chunk : ℕ 
     trail = (λ h i w. (refl, tt), tt);
     extra = tt;
     makes = λ d z. z;
-    paths = λ d j. inr (0, 0, at d j);
+    paths = λ d j. inr (0, 0, ap some (sym (in_one d 0 j)));
     keeps = λ h i c w t z. absurd (f z);
   }
-    where
-      at : (d : ℕ) → In d (0 ∷ []) → ◌≡◌ {A = Option ℕ} (some 0) (some d)
-      at d (In.here) = refl
-      at d (In.later j) = elim j [ ]
 
   -- A settled cut drops its last cell, where no tomb is reached.
   dropped_ok : (m : Mem K) → (IsTomb (main m (word m 0)) → ⊥) → (y : Seat K) (k : K) (d : ℕ) (cs : List ℕ) → path y ≡ d ∷ cs
@@ -163,23 +128,20 @@ module _ {K : Type 0} (same : K → K → Bool) (hash : K → ℕ) (chunk : ℕ 
     extra = dropped_extra m k cs;
     makes = dropped_makes k cs;
     paths = λ f j. inl (rw p (later (dropped_in k cs f j)));
-    keeps = λ h i c w t s j. go h i c w t (rw p at j);
+    keeps = λ h i c w t s j. elim (in_split (rw p at j)) [
+      | inl e ↦ absurd (no_d h i (rw e at w) (rw e at t))
+      | inr l ↦ dropped_keeps m r k cs z h i c w t l
+    ];
   }
-    where
-      go : (h i c : ℕ) → walk chunk (view m) h i ≡ some c → IsTomb (main m (word m c)) → In c (d ∷ cs) → Settled (dropped k cs) × In c (path (dropped k cs))
-      go h i c w t (In.here) = absurd (no_d h i w t)
-      go h i c w t (In.later j) = dropped_keeps m r k cs z h i c w t j
 
   -- The last cell of a settled cut is named no more, so it is not reached.
   parted_ok : (m : Mem K) → (IsTomb (main m (word m 0)) → ⊥) → (k : K) (b d c : ℕ) (cs : List ℕ) → Trail same hash chunk m k (d ∷ c ∷ cs)
       → (view m c (chunk (hash k) (length cs)) ≡ on d → ⊥) → GoesOK m (parent (climb k) b d (c ∷ cs)) (dropped k (c ∷ cs))
-  parted_ok m r k b d c cs z f = dropped_ok m r (parent (climb k) b d (c ∷ cs)) k d (c ∷ cs) refl z.1 (λ h i w t. f (named (z.0 h i w)))
-    where
-      named : Whole same hash chunk m k (d ∷ c ∷ cs) → view m c (chunk (hash k) (length cs)) ≡ on d
-      named u =
-          let w = walk_back chunk (view m) (hash k) (length cs) d u.0 in
-          let p : w.0 ≡ c = some_is (sym w.1 ∙ u.1.0) in
-          rw p at w.2
+  parted_ok m r k b d c cs z f =
+      dropped_ok m r (parent (climb k) b d (c ∷ cs)) k d (c ∷ cs) refl z.1 (λ h i w t.
+      let u = z.0 h i w in
+      let v = walk_back chunk (view m) (hash k) (length cs) d u.0 in
+      let p : v.0 ≡ c = some_is (sym v.1 ∙ u.1.0) in f (rw p at v.2))
 
   -- Every turn that does not write does what it owes.
   pub goes_ok : (m : Mem K) → (IsTomb (main m (word m 0)) → ⊥) → (y x : Seat K) → Goes same hash chunk m y x → SeatOK same hash chunk m y → TrailOK same hash chunk m y → GoesOK m y x
@@ -191,59 +153,29 @@ module _ {K : Type 0} (same : K → K → Bool) (hash : K → ℕ) (chunk : ℕ 
         trail = (λ h i u. (v, z.0 (hash (key o)) (length cs) w), z);
         extra = tt;
         makes = λ f j. j;
-        paths = λ f j. in_more f j v;
+        paths = λ f j. elim (in_split j) [ inl u ↦ inr (hash (key o), suc (length cs), rw u v) | inr l ↦ inl l ];
         keeps = λ h i f u t s. absurd (plain_climb o p s);
       }
-    where
-      in_more : (f : ℕ) → In f (d ∷ c ∷ cs) → walk chunk (view m) (hash (key o)) (suc (length cs)) ≡ some d
-          → In f (c ∷ cs) ⊎ ((h i : ℕ) × (walk chunk (view m) h i ≡ some f))
-      in_more f (In.here) v = inr (hash (key o), suc (length cs), v)
-      in_more f (In.later j) v = inl j
   goes_ok m r y x (Goes.refused o cs p) ok z = rests_ok m (read o cs) (plain_climb o p)
-  goes_ok m r y x (Goes.meets o b c cs t) ok z = record {
-    trail = z;
-    extra = tt;
-    makes = λ f j. j;
-    paths = λ f j. inl j;
-    keeps = λ h i f u t s j. (s, j);
-  }
+  goes_ok m r y x (Goes.meets o b c cs t) ok z =
+      record { trail = z; extra = tt; makes = λ f j. j; paths = λ f j. inl j; keeps = λ h i f u t s j. (s, j) }
   goes_ok m r y x (Goes.loses o c cs e n mp new) ok z = root_ok m (swap o c cs e n mp new) (plain o) (λ s. s)
   goes_ok m r y x (Goes.leaves k d cs nt) ok z = dropped_ok m r (read (climb k) (d ∷ cs)) k d cs refl z.1 (λ h i w t. nt t)
-  goes_ok m r y x (Goes.parted (get k) b d c cs f) ok z = root_ok m (parent (get k) b d (c ∷ cs)) (get k) (λ s. s)
-  goes_ok m r y x (Goes.parted (put k v) b d c cs f) ok z = root_ok m (parent (put k v) b d (c ∷ cs)) (put k v) (λ s. s)
-  goes_ok m r y x (Goes.parted (renew k v) b d c cs f) ok z = root_ok m (parent (renew k v) b d (c ∷ cs)) (renew k v) (λ s. s)
-  goes_ok m r y x (Goes.parted (cut k) b d c cs f) ok z = root_ok m (parent (cut k) b d (c ∷ cs)) (cut k) (λ s. s)
-  goes_ok m r y x (Goes.parted (cutting k v) b d c cs f) ok z = root_ok m (parent (cutting k v) b d (c ∷ cs)) (cutting k v) (λ s. s)
   goes_ok m r y x (Goes.parted (climb k) b d c cs f) ok z = parted_ok m r k b d c cs z f
-  goes_ok m r y x (Goes.fails (get k) b d c cs e n) ok z = root_ok m (clean (get k) b d c cs e n) (get k) (λ s. s)
-  goes_ok m r y x (Goes.fails (put k v) b d c cs e n) ok z = root_ok m (clean (put k v) b d c cs e n) (put k v) (λ s. s)
-  goes_ok m r y x (Goes.fails (renew k v) b d c cs e n) ok z = root_ok m (clean (renew k v) b d c cs e n) (renew k v) (λ s. s)
-  goes_ok m r y x (Goes.fails (cut k) b d c cs e n) ok z = root_ok m (clean (cut k) b d c cs e n) (cut k) (λ s. s)
-  goes_ok m r y x (Goes.fails (cutting k v) b d c cs e n) ok z = root_ok m (clean (cutting k v) b d c cs e n) (cutting k v) (λ s. s)
-  goes_ok m r y x (Goes.fails (climb k) b d c cs e n) ok z = record {
-    trail = z;
-    extra = tt;
-    makes = λ f j. j;
-    paths = λ f j. inl j;
-    keeps = λ h i f u t s j. (s, j);
-  }
+  goes_ok m r y x (Goes.parted o b d c cs f) ok z = root_ok m (parent o b d (c ∷ cs)) o (λ s. s)
+  goes_ok m r y x (Goes.fails (climb k) b d c cs e n) ok z =
+      record { trail = z; extra = tt; makes = λ f j. j; paths = λ f j. inl j; keeps = λ h i f u t s j. (s, j) }
+  goes_ok m r y x (Goes.fails o b d c cs e n) ok z = root_ok m (clean o b d c cs e n) o (λ s. s)
 
   -- A cell that a seat has made is not reached.
   pub cell_free : (m : Mem K) (y : Seat K) (d h i : ℕ) → SeatOK same hash chunk m y → MakesCell y d → walk chunk (view m) h i ≡ some d → ⊥
-  cell_free m idle d h i z e w = e
-  cell_free m (read o cs) d h i z e w = e
-  cell_free m (parent o b c cs) d h i z e w = e
-  cell_free m (swap o c cs x n mp new) d h i z e w = z.cells_free e.0 d e.1 e.2 h i w
-  cell_free m (clean o b f c cs x n) d h i z e w = e
+  cell_free m y d h i z e w = grind arith
 
   -- So it keeps the owners.
   pub owning_goes : (m : Mem K) (xs : List (Seat K)) (t : ℕ) (x : Seat K) → t < length xs → ((u : ℕ) → SeatOK same hash chunk m (get_or xs u idle)) → Owning m xs
       → GoesOK m (get_or xs t idle) x → Owning m (set xs t x)
   owning_goes m xs t x l ok i g =
       owning_set m m xs t x l i i.root_solid (λ u ne. i.trails u) g.trail (λ u ne. i.extras u) g.extra
-      (λ d a b. g.makes d a) (λ u d ne a b. g.makes d a) (λ u d ne a b. go u d a (g.paths d b))
+      (λ d a b. g.makes d a) (λ u d ne a b. g.makes d a)
+      (λ u d ne a b. elim (g.paths d b) [ inl j ↦ i.off u t d a j | inr w ↦ cell_free m (get_or xs u idle) d w.0 w.1 (ok u) a w.2 ])
       (λ h j c w z. inl (i.owned h j c w z)) g.keeps
-    where
-      go : (u d : ℕ) → MakesCell (get_or xs u idle) d → In d (path (get_or xs t idle)) ⊎ ((h i : ℕ) × (walk chunk (view m) h i ≡ some d)) → ⊥
-      go u d a (inl j) = i.off u t d a j
-      go u d a (inr w) = cell_free m (get_or xs u idle) d w.0 w.1 (ok u) a w.2

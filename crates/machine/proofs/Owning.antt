@@ -4,63 +4,44 @@ use mathlib.Core.Bool.{Bool}
 use mathlib.Core.List.{List, [], ◌∷◌}
 use mathlib.Core.Option.{Option, none, some}
 use mathlib.Core.Logic.{◌⊎◌, inl, inr, ◌≢◌}
-use Prim.Native.Nat.{ℕ, zero, suc, ◌<◌, ◌≤◌}
+use Prim.Native.Nat.{ℕ, suc, ◌<◌}
 use native.Mathlib.Omega.{arith}
 use native.Mathlib.Decide.{ℕ_discrete}
 use lib.ListN.{length, set}
 use lib.Seq.{get_or-set_same}
-use Rattle.machine.specs.Tree.{stands, on, walk, In, here, later, nth}
-use Rattle.machine.specs.Machine.{nothing, pair, Main, IsTomb, HasCell, Mem, word, main, view, Op, get, put, renew, cut, cutting, climb, key, plain, Seat, idle, read, swap, parent, clean, path, State, seat, MakesCell, MainInUse, CellInUse, Alike, Prepares, Cleans, Chain, swung, Moves, Step, Entry, Formatted}
-use Rattle.machine.proofs.Walk.{no_some, walk_back, root_is}
-use Rattle.machine.proofs.Graft.{clash}
-use Rattle.machine.proofs.Inv.{cells, Does, Same, SeatOK, Pend, Shape, Inv}
+use Rattle.machine.specs.Tree.{walk, In, later, nth}
+use Rattle.machine.specs.Machine.{nothing, pair, Main, IsTomb, HasCell, Mem, word, main, view, Op, climb, key, plain, Seat, idle, read, swap, parent, clean, path, State, seat, MakesCell, MainInUse, CellInUse, Alike, Prepares, Cleans, Chain, swung, Moves, Step, Entry, Formatted}
+use Rattle.machine.proofs.Walk.{no_some}
+use Rattle.machine.proofs.Members.{in_one, in_split}
+use Rattle.machine.proofs.Inv.{Does, Same, SeatOK, Pend, Shape, Inv}
 use Rattle.machine.proofs.Keep.{walk_alike, word_alike}
-use Rattle.machine.proofs.Split.{cell_pair, second}
+use Rattle.machine.proofs.Split.{cell_pair}
 use Rattle.machine.proofs.Swing.{nth_cells, reached, word_here, word_there, reached_d, back}
-use Rattle.machine.proofs.Turns.{key_plain}
+use Rattle.machine.proofs.Turns.{key_plain, only_root}
 use Rattle.machine.specs.Turn.{IsClimb, IsCutting, Settled, dropped, returns, swept, Goes, Turn, Owner}
 use Rattle.machine.proofs.Trail.{Trail, TrailOK, trailok_same, seat_parent, gone, trailok_swung}
-use Rattle.machine.proofs.Own.{climb_plain, dropped_in, dropped_makes, Extra, Owning, owning_set, dropped_trail, dropped_extra, dropped_keeps, rests_ok, goes_ok, cell_free, owning_goes}
+use Rattle.machine.proofs.Own.{climb_plain, dropped_in, Extra, Owning, owning_set, dropped_trail, dropped_keeps, rests_ok, goes_ok, cell_free, owning_goes}
 
 module _ {K : Type 0} (same : K → K → Bool) (hash : K → ℕ) (chunk : ℕ → ℕ → ℕ) where
   -- Only a cut prepares a tomb, and below the root.
   prepares_cuts : {m : Mem K} {X : Main} {a : ℕ} {o : Op K} {Y : Main} {mp : Option ℕ} {new : List (ℕ × ℕ)} → Prepares same hash chunk m X a o Y mp new → IsTomb Y → IsCutting o × (0 < a)
-  prepares_cuts (Prepares.adds k v bs p x l z slot) t = absurd t
-  prepares_cuts (Prepares.replaces k v bs r p x xe l z slot y slot_p) t = absurd t
-  prepares_cuts (Prepares.extends k v ps p xe ab slot short) t = absurd t
-  prepares_cuts (Prepares.alters k v ps qs p xe slot np nq len ip names old kept) t = absurd t
-  prepares_cuts (Prepares.shrinks k ps qs x xe ix tx np nq two len names old off kept) t = absurd t
-  prepares_cuts (Prepares.buries k ps r x z xe ix tx np ir slot iz nz all pos) t = (tt, pos)
-  prepares_cuts (Prepares.drops k bs p x xe l z slot y stays) t = absurd t
-  prepares_cuts (Prepares.entombs k bs p x r q y xe z slot u ne zr slot_r others pos) t = (tt, pos)
-  prepares_cuts (Prepares.splits k v bs r p x d n rest xe l z slot apart slot_p chain) t = absurd t
+  prepares_cuts pr t = grind arith
 
   -- New cells hold no tomb.
   chain_solid : {m : Mem K} {k : K} {r p : ℕ} {x : K × ℕ} {i : ℕ} {new : List (ℕ × ℕ)} → Chain same hash chunk m k r p x i new
       → (t d y : ℕ) → nth new t ≡ some (d, y) → IsTomb (main m y) → ⊥
-  chain_solid (Chain.ends i d n bs l e ne g1 g2 g3) zero f y q t = let z : n ≡ y = ap second q in rw (← z, e) at t
-  chain_solid (Chain.ends i d n bs l e ne g1 g2 g3) (suc u) f y q t = no_some q
-  chain_solid (Chain.ends_list i d n l e) zero f y q t = let z : n ≡ y = ap second q in rw (← z, e) at t
-  chain_solid (Chain.ends_list i d n l e) (suc u) f y q t = no_some q
-  chain_solid (Chain.links i d n d' n' bs new e ag g1 g2 c) zero f y q t = let z : n ≡ y = ap second q in rw (← z, e) at t
-  chain_solid (Chain.links i d n d' n' bs new e ag g1 g2 c) (suc u) f y q t = chain_solid c u f y q t
+  chain_solid (Chain.links i d n d' n' bs new e ag g1 g2 c) t f y q b = let h = λ (u : ℕ). chain_solid c u f y in grind arith
+  chain_solid (Chain.ends i d n bs l e ne g1 g2 g3) t f y q b = grind arith
+  chain_solid (Chain.ends_list i d n l e) t f y q b = grind arith
 
   prepares_new : {m : Mem K} {X : Main} {a : ℕ} {o : Op K} {Y : Main} {mp : Option ℕ} {new : List (ℕ × ℕ)} → Prepares same hash chunk m X a o Y mp new
       → (t d y : ℕ) → nth new t ≡ some (d, y) → IsTomb (main m y) → ⊥
-  prepares_new (Prepares.adds k v bs p x l z slot) t d y q i = no_some q
-  prepares_new (Prepares.replaces k v bs r p x xe l z slot yy slot_p) t d y q i = no_some q
-  prepares_new (Prepares.extends k v ps p xe ab slot short) t d y q i = no_some q
-  prepares_new (Prepares.alters k v ps qs p xe slot np nq len ip names old kept) t d y q i = no_some q
-  prepares_new (Prepares.shrinks k ps qs x xe ix tx np nq two len names old off kept) t d y q i = no_some q
-  prepares_new (Prepares.buries k ps r x z xe ix tx np ir slot iz nz all pos) t d y q i = no_some q
-  prepares_new (Prepares.drops k bs p x xe l z slot yy stays) t d y q i = no_some q
-  prepares_new (Prepares.entombs k bs p x r qq yy xe z slot u ne zr slot_r others pos) t d y q i = no_some q
   prepares_new (Prepares.splits k v bs r p x dd n rest xe l z slot apart slot_p chain) t d y q i = chain_solid chain t d y q i
+  prepares_new pr t d y q i = no_some q
 
   -- A cleaning prepares a tomb only below the root, and leaves no cell at the chunk.
   cleans_below : {X : Main} {a : ℕ} {k : K} {d p : ℕ} {Y : Main} → Cleans same hash chunk X a k d p Y → IsTomb Y → 0 < a
-  cleans_below (Cleans.contracts bs x l z more) t = absurd t
-  cleans_below (Cleans.entombs bs x z others pos) t = pos
+  cleans_below cl t = grind arith
 
   pub cleans_unlinks : {X : Main} {a : ℕ} {k : K} {d p : ℕ} {Y : Main} → Cleans same hash chunk X a k d p Y → (f : ℕ) → HasCell Y (chunk (hash k) a) f → ⊥
   cleans_unlinks {a = a} {k = k} {p = p} (Cleans.contracts bs x l z more) f h = cell_pair (sym h ∙ get_or-set_same bs (chunk (hash k) a) (pair p) nothing l)
@@ -69,17 +50,15 @@ module _ {K : Type 0} (same : K → K → Bool) (hash : K → ℕ) (chunk : ℕ 
   -- A seat prepares.
   module _ (s : State K) (m : Mem K) (al : Alike chunk s m) where
     extra_alike : (u : ℕ) (y : Seat K) → seat s u ≡ y → Extra same hash chunk s.mem y → Extra same hash chunk m y
-    extra_alike u idle e z = tt
-    extra_alike u (read o cs) e z = tt
     extra_alike u (swap o c cs x n mp new) e z = (
       λ t. z.0 (rw (al.mains n (MainInUse.made u (rw e (inl refl)))) at t),
       λ t d y q i. z.1 t d y q (rw (al.mains y (MainInUse.made u (rw e (inr (t, d, q))))) at i),
     )
-    extra_alike u (parent o b d cs) e z = tt
     extra_alike u (clean o b d c cs x n) e z = (
       λ t. z.0 (rw (al.mains n (MainInUse.made u (rw e refl))) at t),
       λ f h. z.1 f (rw (al.mains n (MainInUse.made u (rw e refl))) at h),
     )
+    extra_alike u y e z = tt
 
     -- A reached tomb was one before.
     tomb_was : (h i c : ℕ) → walk chunk (view m) h i ≡ some c → IsTomb (main m (word m c)) → (walk chunk (view s.mem) h i ≡ some c) × IsTomb (main s.mem (word s.mem c))
@@ -104,14 +83,6 @@ module _ {K : Type 0} (same : K → K → Bool) (hash : K → ℕ) (chunk : ℕ 
         (λ h j c w z. let q = tomb_was h j c w z in inl (i.owned h j c q.0 q.1))
         (λ h j c w z a b. (st a, rw p b))
 
-  -- What pending swaps bring besides stays, when another swap says yes.
-  extra_swung : (m : Mem K) (c n : ℕ) (y : Seat K) → Extra same hash chunk m y → Extra same hash chunk (swung m c n) y
-  extra_swung m c n idle z = tt
-  extra_swung m c n (read o cs) z = tt
-  extra_swung m c n (swap o d cs e x mp new) z = z
-  extra_swung m c n (parent o b d cs) z = tt
-  extra_swung m c n (clean o b d f cs e x) z = z
-
   -- A swap says yes.
   module _ (s : State K) (shape : Shape same hash chunk s.mem) (ok : (u : ℕ) → SeatOK same hash chunk s.mem (seat s u)) (i : Owning same hash chunk s.mem s.seats) (t : ℕ) (l : t < length s.seats)
       (R : K → Option (K × ℕ) → Option (K × ℕ) → Type 0) (k : K) (c : ℕ) (cs : List ℕ) (e n : ℕ) (mp td : Option ℕ) (new : List (ℕ × ℕ))
@@ -133,15 +104,14 @@ module _ {K : Type 0} (same : K → K → Bool) (hash : K → ℕ) (chunk : ℕ 
     -- The root holds no tomb.
     root_swung : IsTomb (main m' (word m' 0)) → ⊥
     unfolding walk
-    root_swung z = go (ℕ_discrete 0 c)
-      where
-        go : Dec (0 ≡ c) → ⊥
-        go (yes p) =
-            let w = reached same hash chunk s.mem shape R k c cs e n mp td new pend holds in
-            let a : length cs ≡ 0 = shape.one.index (hash k) (hash k) (length cs) 0 c w (ap some p) in
-            let b = below_root (tomb_here 0 p z) in
-            omega arith
-        go (no ne) = i.root_solid (tomb_there 0 ne z)
+    root_swung z = elim (ℕ_discrete 0 c) [
+      | yes p ↦
+          let w = reached same hash chunk s.mem shape R k c cs e n mp td new pend holds in
+          let a : length cs ≡ 0 = shape.one.index (hash k) (hash k) (length cs) 0 c w (ap some p) in
+          let b = below_root (tomb_here 0 p z) in
+          omega arith
+      | no ne ↦ i.root_solid (tomb_there 0 ne z)
+    ]
 
     trail_there : (u : ℕ) → TrailOK same hash chunk m' (seat s u)
     trail_there u = trailok_swung same hash chunk s.mem shape R k c cs e n mp td new pend holds unlinked (seat s u)
@@ -155,21 +125,19 @@ module _ {K : Type 0} (same : K → K → Bool) (hash : K → ℕ) (chunk : ℕ 
         → Owning same hash chunk m' (set s.seats t x)
     owning_swung x tx ex mk ps has keep =
         owning_set same hash chunk s.mem m' s.seats t x l i root_swung (λ u ne. trail_there u) tx
-        (λ u ne. extra_swung s.mem c n (seat s u) (i.extras u)) ex
-        (λ d a b. mk d a) (λ u d ne a b. mk d a) (λ u d ne a b. apart u d a (ps d b))
-        (λ h j d w z. own h j d z (ℕ_discrete d c) (back same hash chunk s.mem shape R k c cs e n mp td new pend holds h j d w)) keep
-      where
-        apart : (u d : ℕ) → MakesCell (seat s u) d → In d (path (seat s t)) ⊎ ((h j : ℕ) × (walk chunk (view s.mem) h j ≡ some d)) → ⊥
-        apart u d a (inl j) = i.off u t d a j
-        apart u d a (inr w) = cell_free same hash chunk s.mem (seat s u) d w.0 w.1 (ok u) a w.2
-
-        own : (h j d : ℕ) → IsTomb (main m' (word m' d)) → Dec (d ≡ c)
-            → (walk chunk (view s.mem) h j ≡ some d) ⊎ ((u : ℕ) × (nth (cells new) u ≡ some d) × (j ≤ 7)) → Owner s.seats d ⊎ (Settled x × In d (path x))
-        own h j d z (yes p) b = rw p (has (tomb_here d p z))
-        own h j d z (no ne) (inl v) = inl (i.owned h j d v (tomb_there d ne z))
-        own h j d z (no ne) (inr v) =
-            let y = nth_cells new v.0 d v.1 in
-            absurd (new_solid v.0 d y.0 y.1 (rw (pend.holds v.0 d y.0 y.1) at (tomb_there d ne z)))
+        (λ u ne. let z = i.extras u in grind arith) ex
+        (λ d a b. mk d a) (λ u d ne a b. mk d a)
+        (λ u d ne a b. elim (ps d b) [ inl j ↦ i.off u t d a j | inr w ↦ cell_free same hash chunk s.mem (seat s u) d w.0 w.1 (ok u) a w.2 ])
+        (λ h j d w z. elim (ℕ_discrete d c) [
+          | yes p ↦ rw p (has (tomb_here d p z))
+          | no ne ↦ elim (back same hash chunk s.mem shape R k c cs e n mp td new pend holds h j d w) [
+            | inl v ↦ inl (i.owned h j d v (tomb_there d ne z))
+            | inr v ↦
+                let y = nth_cells new v.0 d v.1 in
+                absurd (new_solid v.0 d y.0 y.1 (rw (pend.holds v.0 d y.0 y.1) at (tomb_there d ne z)))
+          ]
+        ])
+        keep
 
     -- Whoever cleans: who owned the tomb owns the cell above it, if that becomes a tomb.
     helped : (d : ℕ) → td ≡ some d → Owner s.seats c
@@ -182,177 +150,69 @@ module _ {K : Type 0} (same : K → K → Bool) (hash : K → ℕ) (chunk : ℕ 
               (reached same hash chunk s.mem shape R k c cs e n mp td new pend holds) v (seat s o.0) (i.trails o.0) o.2,
         )
 
-  -- The seat after its swap said yes.
-  swept_trail : (m : Mem K) (o : Op K) (cs : List ℕ) → Trail same hash chunk m (key o) cs → TrailOK same hash chunk m (swept o cs)
-  swept_trail m (get k) cs z = tt
-  swept_trail m (put k v) cs z = tt
-  swept_trail m (renew k v) cs z = tt
-  swept_trail m (cut k) cs z = tt
-  swept_trail m (cutting k v) cs z = dropped_trail same hash chunk m k cs z
-  swept_trail m (climb k) cs z = tt
-
-  swept_extra : (m : Mem K) (o : Op K) (cs : List ℕ) → Extra same hash chunk m (swept o cs)
-  swept_extra m (get k) cs = tt
-  swept_extra m (put k v) cs = tt
-  swept_extra m (renew k v) cs = tt
-  swept_extra m (cut k) cs = tt
-  swept_extra m (cutting k v) cs = dropped_extra same hash chunk m k cs
-  swept_extra m (climb k) cs = tt
-
-  swept_makes : (o : Op K) (cs : List ℕ) (d : ℕ) → MakesCell (swept o cs) d → ⊥
-  swept_makes (get k) cs d z = z
-  swept_makes (put k v) cs d z = z
-  swept_makes (renew k v) cs d z = z
-  swept_makes (cut k) cs d z = z
-  swept_makes (cutting k v) cs d z = dropped_makes k cs d z
-  swept_makes (climb k) cs d z = z
-
-  swept_in : (o : Op K) (cs : List ℕ) (d : ℕ) → In d (path (swept o cs)) → In d cs
-  swept_in (get k) cs d j = elim j [ ]
-  swept_in (put k v) cs d j = elim j [ ]
-  swept_in (renew k v) cs d j = elim j [ ]
-  swept_in (cut k) cs d j = elim j [ ]
-  swept_in (cutting k v) cs d j = dropped_in k cs d j
-  swept_in (climb k) cs d j = elim j [ ]
-
-  -- A cut that made a tomb owns it.
-  swept_own : (o : Op K) (c : ℕ) (cs : List ℕ) → IsCutting o → 0 < length cs → Settled (swept o (c ∷ cs)) × In c (path (swept o (c ∷ cs)))
-  swept_own (get k) c cs z l = absurd z
-  swept_own (put k v) c cs z l = absurd z
-  swept_own (renew k v) c cs z l = absurd z
-  swept_own (cut k) c cs z l = absurd z
-  swept_own (cutting k v) c [] z l = absurd (omega arith)
-  swept_own (cutting k v) c (d ∷ cs) z l = (tt, here)
-  swept_own (climb k) c cs z l = absurd z
-
-  -- A swap says yes.
+  -- A swap says yes: a cut that made a tomb owns it.
   owning_swapped : (s : State K) → Shape same hash chunk s.mem → ((u : ℕ) → SeatOK same hash chunk s.mem (seat s u)) → Owning same hash chunk s.mem s.seats
       → (t : ℕ) (o : Op K) (c : ℕ) (cs : List ℕ) (e n : ℕ) (mp : Option ℕ) (new : List (ℕ × ℕ)) → t < length s.seats
       → seat s t ≡ swap o c cs e n mp new → word s.mem c ≡ e → Owning same hash chunk (swung s.mem c n) (set s.seats t (swept o (c ∷ cs)))
   owning_swapped s shape ok i t o c cs e n mp new l q holds =
+      let makes : (d : ℕ) → (u x : ℕ) × (nth new u ≡ some (d, x)) → MakesCell (seat s t) d = λ d z. rw q z in
+      let unlinked : (d f : ℕ) → none ≡ some d → HasCell (main s.mem n) (chunk (hash (key o)) (length cs)) f → ⊥ = λ d f x h. no_some x in
+      let pend : Pend same hash chunk (Does same hash chunk o) s.mem (key o) c cs e n mp none new = rw q at (ok t) in
+      let ex : Extra same hash chunk s.mem (swap o c cs e n mp new) = rw q at (i.extras t) in
+      let tr : Trail same hash chunk (swung s.mem c n) (key o) (c ∷ cs) =
+      rw q at (trail_there s shape ok i t l (Does same hash chunk o) (key o) c cs e n mp none new pend holds unlinked (λ z. (ex.0 z).1) ex.1 makes t) in
       owning_swung s shape ok i t l (Does same hash chunk o) (key o) c cs e n mp none new pend holds unlinked (λ z. (ex.0 z).1) ex.1 makes
-      (swept o (c ∷ cs)) (swept_trail (swung s.mem c n) o (c ∷ cs) tr) (swept_extra (swung s.mem c n) o (c ∷ cs)) (swept_makes o (c ∷ cs))
-      (λ d j. inl (rw q (swept_in o (c ∷ cs) d j)))
-      (λ z. inr (swept_own o c cs (ex.0 z).0 (ex.0 z).1))
+      (swept o (c ∷ cs)) (grind arith) (grind arith) (grind arith)
+      (λ d j. inl (rw q (grind arith)))
+      (λ z. let w = ex.0 z in inr (grind (arith, In.here)))
       (λ h j d w z a b. absurd (rw q at a))
-    where
-      pend : Pend same hash chunk (Does same hash chunk o) s.mem (key o) c cs e n mp none new
-      pend = rw q at (ok t)
-
-      ex : Extra same hash chunk s.mem (swap o c cs e n mp new)
-      ex = rw q at (i.extras t)
-
-      makes : (d : ℕ) → (u x : ℕ) × (nth new u ≡ some (d, x)) → MakesCell (seat s t) d
-      makes d z = rw q z
-
-      unlinked : (d f : ℕ) → none ≡ some d → HasCell (main s.mem n) (chunk (hash (key o)) (length cs)) f → ⊥
-      unlinked d f x h = no_some x
-
-      tr : Trail same hash chunk (swung s.mem c n) (key o) (c ∷ cs)
-      tr = rw q at (trail_there s shape ok i t l (Does same hash chunk o) (key o) c cs e n mp none new pend holds unlinked (λ z. (ex.0 z).1) ex.1 makes t)
 
   root_trail : (m : Mem K) (k : K) → Trail same hash chunk m k (0 ∷ [])
   unfolding walk
   root_trail m k = (λ h i w. (refl, tt), tt)
 
-  root_in : (m : Mem K) (d : ℕ) → In d (0 ∷ []) → (h j : ℕ) × (walk chunk (view m) h j ≡ some d)
-  unfolding walk
-  root_in m d (In.here) = (0, 0, refl)
-  root_in m d (In.later j) = elim j [ ]
-
   -- The seat after its cleaning swap said yes.
   returns_trail : (m : Mem K) (o : Op K) (cs : List ℕ) → Trail same hash chunk m (key o) cs → TrailOK same hash chunk m (returns o cs)
-  returns_trail m (get k) cs z = root_trail m k
-  returns_trail m (put k v) cs z = root_trail m k
-  returns_trail m (renew k v) cs z = root_trail m k
-  returns_trail m (cut k) cs z = root_trail m k
-  returns_trail m (cutting k v) cs z = root_trail m k
   returns_trail m (climb k) cs z = dropped_trail same hash chunk m k cs z
-
-  returns_extra : (m : Mem K) (o : Op K) (cs : List ℕ) → Extra same hash chunk m (returns o cs)
-  returns_extra m (get k) cs = tt
-  returns_extra m (put k v) cs = tt
-  returns_extra m (renew k v) cs = tt
-  returns_extra m (cut k) cs = tt
-  returns_extra m (cutting k v) cs = tt
-  returns_extra m (climb k) cs = dropped_extra same hash chunk m k cs
-
-  returns_makes : (o : Op K) (cs : List ℕ) (d : ℕ) → MakesCell (returns o cs) d → ⊥
-  returns_makes (get k) cs d z = z
-  returns_makes (put k v) cs d z = z
-  returns_makes (renew k v) cs d z = z
-  returns_makes (cut k) cs d z = z
-  returns_makes (cutting k v) cs d z = z
-  returns_makes (climb k) cs d z = dropped_makes k cs d z
+  returns_trail m o cs z = root_trail m (key o)
 
   returns_in : (m : Mem K) (o : Op K) (cs : List ℕ) (d : ℕ) → In d (path (returns o cs)) → In d cs ⊎ ((h j : ℕ) × (walk chunk (view m) h j ≡ some d))
-  returns_in m (get k) cs d j = inr (root_in m d j)
-  returns_in m (put k v) cs d j = inr (root_in m d j)
-  returns_in m (renew k v) cs d j = inr (root_in m d j)
-  returns_in m (cut k) cs d j = inr (root_in m d j)
-  returns_in m (cutting k v) cs d j = inr (root_in m d j)
+  unfolding walk
   returns_in m (climb k) cs d j = inl (dropped_in k cs d j)
-
-  returns_keeps : (m : Mem K) → (IsTomb (main m (word m 0)) → ⊥) → (o : Op K) (cs : List ℕ) → Trail same hash chunk m (key o) cs
-      → (h i x : ℕ) → walk chunk (view m) h i ≡ some x → IsTomb (main m (word m x)) → IsClimb o → In x cs → Settled (returns o cs) × In x (path (returns o cs))
-  returns_keeps m r (get k) cs z h i x w t p j = absurd p
-  returns_keeps m r (put k v) cs z h i x w t p j = absurd p
-  returns_keeps m r (renew k v) cs z h i x w t p j = absurd p
-  returns_keeps m r (cut k) cs z h i x w t p j = absurd p
-  returns_keeps m r (cutting k v) cs z h i x w t p j = absurd p
-  returns_keeps m r (climb k) cs z h i x w t p j = dropped_keeps same hash chunk m r k cs z h i x w t j
+  returns_in m o cs d j = inr (0, 0, ap some (sym (in_one d 0 j)))
 
   -- A cleaning swap says yes.
   owning_cleaned : (s : State K) → Shape same hash chunk s.mem → ((u : ℕ) → SeatOK same hash chunk s.mem (seat s u)) → Owning same hash chunk s.mem s.seats
       → (t : ℕ) (o : Op K) (b d c : ℕ) (cs : List ℕ) (e n : ℕ) → t < length s.seats
       → seat s t ≡ clean o b d c cs e n → word s.mem c ≡ e → Owning same hash chunk (swung s.mem c n) (set s.seats t (returns o (c ∷ cs)))
   owning_cleaned s shape ok i t o b d c cs e n l q holds =
+      let ex : Extra same hash chunk s.mem (clean o b d c cs e n) = rw q at (i.extras t) in
+      let makes : (f : ℕ) → (u x : ℕ) × (◌≡◌ {A = Option (ℕ × ℕ)} none (some (f, x))) → MakesCell (seat s t) f = λ f z. absurd (no_some z.2) in
+      let unlinked : (g f : ℕ) → some d ≡ some g → HasCell (main s.mem n) (chunk (hash (key o)) (length cs)) f → ⊥ = λ g f x h. ex.1 f h in
+      let pend : Pend same hash chunk (Same same hash chunk) s.mem (key o) c cs e n none (some d) [] =
+      let both : SeatOK same hash chunk s.mem (clean o b d c cs e n) = rw q at (ok t) in both.1 in
+      let tr : Trail same hash chunk (swung s.mem c n) (key o) (d ∷ c ∷ cs) =
+      rw q at (trail_there s shape ok i t l (Same same hash chunk) (key o) c cs e n none (some d) [] pend holds unlinked ex.0 (λ u f x y z. no_some y) makes t) in
       owning_swung s shape ok i t l (Same same hash chunk) (key o) c cs e n none (some d) [] pend holds unlinked ex.0 (λ u f x y z. no_some y) makes
-      (returns o (c ∷ cs)) (returns_trail (swung s.mem c n) o (c ∷ cs) tr.1) (returns_extra (swung s.mem c n) o (c ∷ cs)) (returns_makes o (c ∷ cs))
-      (λ f j. inside f (returns_in s.mem o (c ∷ cs) f j))
+      (returns o (c ∷ cs)) (returns_trail (swung s.mem c n) o (c ∷ cs) tr.1) (grind arith) (grind arith)
+      (λ f j. elim (returns_in s.mem o (c ∷ cs) f j) [ inl j ↦ inl (rw q (later j)) | inr w ↦ inr w ])
       (λ z. inl (helped s shape ok i t l (Same same hash chunk) (key o) c cs e n none (some d) [] pend holds unlinked ex.0 (λ u f x y z. no_some y) makes d refl))
-      (λ h j f w z a b. keep h j f w z (rw q at a) (rw q at b))
-    where
-      both : SeatOK same hash chunk s.mem (clean o b d c cs e n)
-      both = rw q at (ok t)
-
-      pend : Pend same hash chunk (Same same hash chunk) s.mem (key o) c cs e n none (some d) []
-      pend = both.1
-
-      ex : Extra same hash chunk s.mem (clean o b d c cs e n)
-      ex = rw q at (i.extras t)
-
-      makes : (f : ℕ) → (u x : ℕ) × (◌≡◌ {A = Option (ℕ × ℕ)} none (some (f, x))) → MakesCell (seat s t) f
-      makes f z = absurd (no_some z.2)
-
-      unlinked : (g f : ℕ) → some d ≡ some g → HasCell (main s.mem n) (chunk (hash (key o)) (length cs)) f → ⊥
-      unlinked g f x h = ex.1 f h
-
-      tr : Trail same hash chunk (swung s.mem c n) (key o) (d ∷ c ∷ cs)
-      tr = rw q at (trail_there s shape ok i t l (Same same hash chunk) (key o) c cs e n none (some d) [] pend holds unlinked ex.0 (λ u f x y z. no_some y) makes t)
-
-      root : IsTomb (main (swung s.mem c n) (word (swung s.mem c n) 0)) → ⊥
-      root = root_swung s shape ok i t l (Same same hash chunk) (key o) c cs e n none (some d) [] pend holds unlinked ex.0 (λ u f x y z. no_some y) makes
-
-      inside : (f : ℕ) → In f (c ∷ cs) ⊎ ((h j : ℕ) × (walk chunk (view s.mem) h j ≡ some f)) → In f (path (seat s t)) ⊎ ((h j : ℕ) × (walk chunk (view s.mem) h j ≡ some f))
-      inside f (inl j) = inl (rw q (later j))
-      inside f (inr w) = inr w
-
-      keep : (h j f : ℕ) → walk chunk (view (swung s.mem c n)) h j ≡ some f → IsTomb (main (swung s.mem c n) (word (swung s.mem c n) f))
-          → IsClimb o → In f (d ∷ c ∷ cs) → Settled (returns o (c ∷ cs)) × In f (path (returns o (c ∷ cs)))
-      keep h j f w z a (In.here) = absurd (gone same hash chunk s.mem shape (Same same hash chunk) (key o) c cs e n none (some d) [] pend holds unlinked d h j refl w)
-      keep h j f w z a (In.later b) = returns_keeps (swung s.mem c n) root o (c ∷ cs) tr.1 h j f w z a b
+      (λ h j f w z a b. elim (in_split (rw q at b)) [
+        | inl g ↦ absurd (gone same hash chunk s.mem shape (Same same hash chunk) (key o) c cs e n none (some d) [] pend holds unlinked d h j refl (rw g at w))
+        | inr r ↦
+            let root = root_swung s shape ok i t l (Same same hash chunk) (key o) c cs e n none (some d) [] pend holds unlinked ex.0 (λ u f x y z. no_some y) makes in
+            let keeps = λ (k : K) (y : Trail same hash chunk (swung s.mem c n) k (c ∷ cs)). dropped_keeps same hash chunk (swung s.mem c n) root k (c ∷ cs) y h j f w z r in
+            let climbs : IsClimb o = rw q at a in let trail = tr.1 in grind arith
+      ])
 
   -- What a seat does without writing is one of the machine's moves.
   leaves_moves : (m : Mem K) (k : K) (d : ℕ) (cs : List ℕ) → Moves same hash chunk m (read (climb k) (d ∷ cs)) (dropped k cs)
-  leaves_moves m k d [] = Moves.rest (read (climb k) (d ∷ []))
-  leaves_moves m k d (c ∷ []) = Moves.rest (read (climb k) (d ∷ c ∷ []))
   leaves_moves m k d (c ∷ f ∷ cs) = Moves.up (climb k) d (c ∷ f ∷ cs)
+  leaves_moves m k d cs = Moves.rest (read (climb k) (d ∷ cs))
 
   parted_moves : (m : Mem K) (k : K) (b d : ℕ) (cs : List ℕ) → Moves same hash chunk m (parent (climb k) b d cs) (dropped k cs)
-  parted_moves m k b d [] = Moves.rest (parent (climb k) b d [])
-  parted_moves m k b d (c ∷ []) = Moves.rest (parent (climb k) b d (c ∷ []))
   parted_moves m k b d (c ∷ f ∷ cs) = Moves.turns (climb k) b d (c ∷ f ∷ cs)
+  parted_moves m k b d cs = Moves.rest (parent (climb k) b d cs)
 
   pub goes_moves : (m : Mem K) (y x : Seat K) → Goes same hash chunk m y x → Moves same hash chunk m y x
   goes_moves m y x (Goes.opens o p) = Moves.root idle o
@@ -361,39 +221,10 @@ module _ {K : Type 0} (same : K → K → Bool) (hash : K → ℕ) (chunk : ℕ 
   goes_moves m y x (Goes.meets o b c cs t) = Moves.meets o b c cs t
   goes_moves m y x (Goes.loses o c cs e n mp new) = Moves.root (swap o c cs e n mp new) (plain o)
   goes_moves m y x (Goes.leaves k d cs nt) = leaves_moves m k d cs
-  goes_moves m y x (Goes.parted (get k) b d c cs f) = Moves.root (parent (get k) b d (c ∷ cs)) (get k)
-  goes_moves m y x (Goes.parted (put k v) b d c cs f) = Moves.root (parent (put k v) b d (c ∷ cs)) (put k v)
-  goes_moves m y x (Goes.parted (renew k v) b d c cs f) = Moves.root (parent (renew k v) b d (c ∷ cs)) (renew k v)
-  goes_moves m y x (Goes.parted (cut k) b d c cs f) = Moves.root (parent (cut k) b d (c ∷ cs)) (cut k)
-  goes_moves m y x (Goes.parted (cutting k v) b d c cs f) = Moves.root (parent (cutting k v) b d (c ∷ cs)) (cutting k v)
   goes_moves m y x (Goes.parted (climb k) b d c cs f) = parted_moves m k b d (c ∷ cs)
-  goes_moves m y x (Goes.fails (get k) b d c cs e n) = Moves.root (clean (get k) b d c cs e n) (get k)
-  goes_moves m y x (Goes.fails (put k v) b d c cs e n) = Moves.root (clean (put k v) b d c cs e n) (put k v)
-  goes_moves m y x (Goes.fails (renew k v) b d c cs e n) = Moves.root (clean (renew k v) b d c cs e n) (renew k v)
-  goes_moves m y x (Goes.fails (cut k) b d c cs e n) = Moves.root (clean (cut k) b d c cs e n) (cut k)
-  goes_moves m y x (Goes.fails (cutting k v) b d c cs e n) = Moves.root (clean (cutting k v) b d c cs e n) (cutting k v)
+  goes_moves m y x (Goes.parted o b d c cs f) = Moves.root (parent o b d (c ∷ cs)) o
   goes_moves m y x (Goes.fails (climb k) b d c cs e n) = Moves.misses (climb k) b d c cs e n
-
-  dropped_next : (k : K) (c : ℕ) (cs : List ℕ) → (dropped k (c ∷ cs) ≡ idle) ⊎ (dropped k (c ∷ cs) ≡ read (climb k) (c ∷ cs))
-  dropped_next k c [] = inl refl
-  dropped_next k c (d ∷ cs) = inr refl
-
-  pub swept_next : (o : Op K) (c : ℕ) (cs : List ℕ) → (swept o (c ∷ cs) ≡ idle) ⊎ (swept o (c ∷ cs) ≡ read (climb (key o)) (c ∷ cs))
-  swept_next (get k) c cs = inl refl
-  swept_next (put k v) c cs = inl refl
-  swept_next (renew k v) c cs = inl refl
-  swept_next (cut k) c cs = inl refl
-  swept_next (cutting k v) c cs = dropped_next k c cs
-  swept_next (climb k) c cs = inl refl
-
-  pub returns_next : (o : Op K) (c : ℕ) (cs : List ℕ) → (returns o (c ∷ cs) ≡ idle) ⊎ ((returns o (c ∷ cs) ≡ read o (0 ∷ [])) ⊎ (returns o (c ∷ cs) ≡ read o (c ∷ cs)))
-  returns_next (get k) c cs = inr (inl refl)
-  returns_next (put k v) c cs = inr (inl refl)
-  returns_next (renew k v) c cs = inr (inl refl)
-  returns_next (cut k) c cs = inr (inl refl)
-  returns_next (cutting k v) c cs = inr (inl refl)
-  returns_next (climb k) c [] = inl refl
-  returns_next (climb k) c (d ∷ cs) = inr (inr refl)
+  goes_moves m y x (Goes.fails o b d c cs e n) = Moves.root (clean o b d c cs e n) o
 
   -- So every exact turn is a step of the machine, and the log of a run by exact turns stands.
   pub turn_step : (s s' : State K) (e : Option (Entry K)) → Turn same hash chunk s e s' → Step same hash chunk s e s'
@@ -401,9 +232,9 @@ module _ {K : Type 0} (same : K → K → Bool) (hash : K → ℕ) (chunk : ℕ 
   turn_step s s' e (Turn.got t k c cs ps l q nt v) = Step.got t k c cs ps l q nt v
   turn_step s s' e (Turn.lacks t k c cs ps l q nt v f) = Step.lacks t k c cs ps l q nt v f
   turn_step s s' e (Turn.prepared t o c cs n mp new m l q al un up fr pr) = Step.prepared t o c cs n mp new m l q al un up fr pr
-  turn_step s s' e (Turn.swapped t o c cs x n mp new l q h) = Step.swapped t o c cs x n mp new (swept o (c ∷ cs)) l q h (swept_next o c cs)
+  turn_step s s' e (Turn.swapped t o c cs x n mp new l q h) = Step.swapped t o c cs x n mp new (swept o (c ∷ cs)) l q h (grind arith)
   turn_step s s' e (Turn.cleaning t o b d c cs n m l q al un cl) = Step.cleaning t o b d c cs n m l q al un cl
-  turn_step s s' e (Turn.cleaned t o b d c cs x n l q h) = Step.cleaned t o b d c cs x n (returns o (c ∷ cs)) l q h (returns_next o c cs)
+  turn_step s s' e (Turn.cleaned t o b d c cs x n l q h) = Step.cleaned t o b d c cs x n (returns o (c ∷ cs)) l q h (grind arith)
 
   -- Every turn keeps the owners.
   pub owning_keeps : (es : List (Entry K)) (s s' : State K) (e : Option (Entry K)) → Turn same hash chunk s e s'
@@ -427,25 +258,14 @@ module _ {K : Type 0} (same : K → K → Bool) (hash : K → ℕ) (chunk : ℕ 
       (cleans_below cl, cleans_unlinks cl) (λ f x. absurd x) (λ z. rw q at z)
   owning_keeps es s s' e (Turn.cleaned t o b d c cs x n l q h) v i = owning_cleaned s v.shape v.seats.ok i t o b d c cs x n l q h
 
-  -- At the start only the root is reached, an empty branch node.
-  pub only_root : (s : State K) → Formatted s → (h i c : ℕ) → walk chunk (view s.mem) h i ≡ some c → (i ≡ 0) × (c ≡ 0)
-  unfolding view
-  only_root s f h zero c w = (refl, sym (root_is chunk (view s.mem) h c w))
-  only_root s f h (suc i) c w =
-      let b = walk_back chunk (view s.mem) h i c w in
-      let y : view s.mem 0 (chunk h i) ≡ on c = subst (λ (d : ℕ). view s.mem d (chunk h i) ≡ on c) (only_root s f h i b.0 b.1).1 b.2 in
-      let e : view s.mem 0 (chunk h i) ≡ stands [] = rw (f.root.1, f.root.2 (chunk h i)) in
-      absurd (clash (sym e ∙ y))
-
-  -- So there is no tomb.
+  -- At the start there is no tomb.
   pub owning_begins : (s : State K) → Formatted s → Owning same hash chunk s.mem s.seats
-  owning_begins s f = record {
-    root_solid = root;
-    trails = λ t. rw (f.idles t) tt;
-    extras = λ t. rw (f.idles t) tt;
-    off = λ t u d a b. rw (f.idles t) at a;
-    owned = λ h i c w z. absurd (root (subst (λ (d : ℕ). IsTomb (main s.mem (word s.mem d))) (only_root s f h i c w).1 z));
-  }
-    where
-      root : IsTomb (main s.mem (word s.mem 0)) → ⊥
-      root z = rw f.root.1 at z
+  owning_begins s f =
+      let root : IsTomb (main s.mem (word s.mem 0)) → ⊥ = λ z. rw f.root.1 at z in
+      record {
+        root_solid = root;
+        trails = λ t. rw (f.idles t) tt;
+        extras = λ t. rw (f.idles t) tt;
+        off = λ t u d a b. rw (f.idles t) at a;
+        owned = λ h i c w z. absurd (root (subst (λ (d : ℕ). IsTomb (main s.mem (word s.mem d))) (only_root same hash chunk s f h i c w).1 z));
+      }

@@ -23,20 +23,16 @@ module _ {K : Type 0} (same : K → K → Bool) (hash : K → ℕ) (chunk : ℕ 
       → (z : K × ℕ) × (lookup_pair same hash chunk (view s.mem) k ≡ some z)
   unfolding view
   present es s t k v c cs e n mp new i lawful q h =
+      let pend : Pend same hash chunk (Does same hash chunk (renew k v)) s.mem k c cs e n mp none new = ok_at same hash chunk i.seats t (swap (renew k v) c cs e n mp new) q in
+      let reached : walk chunk (view s.mem) (hash k) (length cs) ≡ some c = is_reached same hash chunk s.mem k (length cs) c pend.path.0 (λ x. pend.solid (rw h at x)) in
       let f = here (find_pair same k shows.all) refl in
       (f.0, lookup_ends same hash chunk (view s.mem) k shows.all c (length cs) reached (stop (i.shape.low (hash k) (length cs) c reached) (rw h shows.shown)) ∙ f.1)
     where
-      pend : Pend same hash chunk (Does same hash chunk (renew k v)) s.mem k c cs e n mp none new
-      pend = ok_at same hash chunk i.seats t (swap (renew k v) c cs e n mp new) q
-
       rule : PendRule same hash chunk s.mem (swap (renew k v) c cs e n mp new)
       rule = rw q at (lawful.pends t)
 
       shows : Shows same s.mem.pairs (main s.mem e) (chunk (hash k) (length cs)) k
       shows = (rule h).2
-
-      reached : walk chunk (view s.mem) (hash k) (length cs) ≡ some c
-      reached = is_reached same hash chunk s.mem k (length cs) c pend.path.0 (λ x. pend.solid (rw h at x))
 
       here : (o : Option (K × ℕ)) → find_pair same k shows.all ≡ o → (z : K × ℕ) × (find_pair same k shows.all ≡ some z)
       here none x = absurd (find_lacks same hash laws k shows.all x shows.pair shows.among shows.equal)

@@ -9,8 +9,8 @@ use native.Mathlib.Omega.{arith}
 use Rattle.machine.specs.Tree.{Level, Spot, stands, on, Tree, Agree, walk, Prefixed, In, nth, Home, Placed}
 use Rattle.machine.specs.Pairs.{find_pair, lookup_pair}
 use Rattle.machine.proofs.Walk.{walk_on, walk_agree}
-use Rattle.machine.proofs.Effect.{Ends, stop, more, Local, kept, changed, swap_effect}
-use Rattle.machine.proofs.Graft.{Graft, New, clash, walked_back, walked_on, prefixed_graft, placed_graft}
+use Rattle.machine.proofs.Effect.{Ends, stop, more, kept, changed, swap_effect}
+use Rattle.machine.proofs.Graft.{Graft, walked_back, walked_on, prefixed_graft, placed_graft}
 
 -- One spot before and after: as it was; pairs for pairs; the pairs of a tomb for the cell d that held it; or a new cell for pairs.
 pub data Spots {K : Type 0} (F G : Spot K) (td : Option ℕ) (tomb : Spot K) (At : Type 0) (cells : List ℕ) : Type 0 where
@@ -32,15 +32,11 @@ pub data Near {K : Type 0} (same : K → K → Bool) (chunk : ℕ → ℕ → �
   graft : (d : ℕ) (ps qs : List (K × ℕ)) → F ≡ stands ps → G ≡ on d → nth cells 0 ≡ some d → Leads chunk h cells E qs 0 (suc a) → R (find_pair same l ps) (find_pair same l qs)
       → Near same chunk l h a R F G td tomb cells E
 
--- The chunk q is the chunk r.
-abbrev pub Place : ℕ → ℕ → Type 0
-Place q r = q ≡ r
-
 -- A swap from F to G at index a along h will do R to every key's lookup. It may cut off the cell td, which holds a tomb,
 -- and attach the new cells, which show E.
 pub record Ready {K : Type 0} (same : K → K → Bool) (hash : K → ℕ) (chunk : ℕ → ℕ → ℕ) (R : K → Option (K × ℕ) → Option (K × ℕ) → Type 0) (h a : ℕ)
     (F G : ℕ → Spot K) (Flat : Type 0) (td : Option ℕ) (tomb : Spot K) (cells : List ℕ) (E : ℕ → ℕ → Spot K) : Type 0 where
-  pub spots : (q : ℕ) → Spots (F q) (G q) td tomb (Place q (chunk h a)) cells
+  pub spots : (q : ℕ) → Spots (F q) (G q) td tomb (q ≡ chunk h a) cells
   pub chain : (t e q d : ℕ) → nth cells t ≡ some e → E t q ≡ on d → (q ≡ chunk h (suc a + t)) × (nth cells (suc t) ≡ some d)
   pub short : (t e : ℕ) → nth cells t ≡ some e → suc a + t ≤ 7
   pub homes_new : (t e q : ℕ) (ps : List (K × ℕ)) (x : K × ℕ) → nth cells t ≡ some e → E t q ≡ stands ps → In x ps → Home hash chunk (Level (E t)) h (suc a + t) q x
@@ -68,8 +64,8 @@ module _ {K : Type 0} (same : K → K → Bool) (hash : K → ℕ) (chunk : ℕ 
   grafting = record {
     reached = reached;
     but = but;
-    named = λ q d e. named q d e (r.spots q);
-    kept = λ q d e. keep q d e (r.spots q);
+    named = λ q d e. let s = r.spots q in grind arith;
+    kept = λ q d e. let s = r.spots q in grind arith;
     barren = λ d e q. ((dead d e).0, (dead d e).1 q);
     chain = λ t e q d x y. r.chain t e q d x (sym (new_face t e x q) ∙ y);
     new = λ t e g i x. new t e i g x;
@@ -77,40 +73,22 @@ module _ {K : Type 0} (same : K → K → Bool) (hash : K → ℕ) (chunk : ℕ 
     short = r.short;
     homes = r.homes;
     flat = flat;
-    homes_new = λ t e q ps x y z i. let z' = sym (new_face t e y q) ∙ z in let w = r.homes_new t e q ps x y z' i in record { agrees = w.agrees; proper = flatten (new_flat t e q ps x y z' i) w.proper };
+    homes_new = λ t e q ps x y z i. let z' = sym (new_face t e y q) ∙ z in let w = r.homes_new t e q ps x y z' i in record { agrees = w.agrees; proper = elim w.proper [ inl v ↦ inl v | inr v ↦ inr (new_flat t e q ps x y z' i v) ] };
   }
-    where
-      flatten : {A B C : Type 0} → (C → B) → A ⊎ C → A ⊎ B
-      flatten f (inl x) = inl x
-      flatten f (inr x) = inr (f x)
-
-      named : (q d : ℕ) → N c q ≡ on d → Spots (M c q) (N c q) td tomb (Place q (chunk h a)) cells → (M c q ≡ on d) ⊎ ((q ≡ chunk h a) × (nth cells 0 ≡ some d))
-      named q d e (as_was x) = inl (sym x ∙ e)
-      named q d e (both ps qs x y) = absurd (clash (sym y ∙ e))
-      named q d e (prune f ps x y z w) = absurd (clash (sym w ∙ e))
-      named q d e (graft f ps x y z w) = let s : f ≡ d = cc in inr (x, rw s at y)
-
-      keep : (q d : ℕ) → M c q ≡ on d → Spots (M c q) (N c q) td tomb (Place q (chunk h a)) cells → (N c q ≡ on d) ⊎ Gone td d
-      keep q d e (as_was x) = inl (x ∙ e)
-      keep q d e (both ps qs x y) = absurd (clash (sym x ∙ e))
-      keep q d e (prune f ps x y z w) = let s : f ≡ d = cc in inr (rw s at x)
-      keep q d e (graft f ps x y z w) = absurd (clash (sym z ∙ e))
 
   -- A walk after the swap was a walk before it, or it ends in a new cell.
   pub ready_back : (g i d : ℕ) → walk chunk N g i ≡ some d → (walk chunk M g i ≡ some d) ⊎ ((t : ℕ) × (nth cells t ≡ some d) × (i ≤ 7))
-  ready_back g i d w = go (walked_back hash chunk M N h a c cells one (Gone td) FlatM FlatN grafting g i d w)
-    where
-      go : (walk chunk M g i ≡ some d) ⊎ New hash chunk M N h a c cells one (Gone td) FlatM FlatN grafting g i d → (walk chunk M g i ≡ some d) ⊎ ((t : ℕ) × (nth cells t ≡ some d) × (i ≤ 7))
-      go (inl v) = inl v
-      go (inr v) = let s = r.short v.place d v.is in inr (v.place, v.is, omega (arith, v.index))
+  ready_back g i d w = elim (walked_back hash chunk M N h a c cells one (Gone td) FlatM FlatN grafting g i d w) [
+    | inl v ↦ inl v
+    | inr v ↦ let s = r.short v.place d v.is in inr (v.place, v.is, omega (arith, v.index))
+  ]
 
   -- The index of a new cell is told by its place.
   pub ready_new : (g i d t : ℕ) → walk chunk N g i ≡ some d → nth cells t ≡ some d → i ≡ suc a + t
-  ready_new g i d t w x = go (walked_back hash chunk M N h a c cells one (Gone td) FlatM FlatN grafting g i d w)
-    where
-      go : (walk chunk M g i ≡ some d) ⊎ New hash chunk M N h a c cells one (Gone td) FlatM FlatN grafting g i d → i ≡ suc a + t
-      go (inl v) = absurd (new t d i g x v)
-      go (inr v) = let p = once v.place t d v.is x in rw (← p) v.index
+  ready_new g i d t w x = elim (walked_back hash chunk M N h a c cells one (Gone td) FlatM FlatN grafting g i d w) [
+    | inl v ↦ absurd (new t d i g x v)
+    | inr v ↦ let p = once v.place t d v.is x in rw (← p) v.index
+  ]
 
   -- A walk before the swap is a walk after it, or it ends in the cell that is cut off.
   pub ready_on : (g i d : ℕ) → walk chunk M g i ≡ some d → (walk chunk N g i ≡ some d) ⊎ Gone td d
@@ -134,21 +112,16 @@ module _ {K : Type 0} (same : K → K → Bool) (hash : K → ℕ) (chunk : ℕ 
 
   -- The swap does to every key's lookup what it should.
   pub ready_effect : (l : K) → R l (lookup_pair same hash chunk M l) (lookup_pair same hash chunk N l)
-  ready_effect = swap_effect same hash chunk M N one h a c reached but R r.far (λ l ag. go l ag (r.near l ag))
-    where
-      la : a ≤ 7
-      la = low h a c reached
-
-      tomb_is : {ps qs : List (K × ℕ)} → tomb ≡ stands ps → tomb ≡ stands qs → ps ≡ qs
-      tomb_is x y = cc
-
-      go : (l : K) → Agree chunk (hash l) h a → Near same chunk l (hash l) a (R l) (M c (chunk (hash l) a)) (N c (chunk (hash l) a)) td tomb cells E
-          → Local same hash chunk M N c a l (R l)
-      go l ag (as_was e x) = kept e x
-      go l ag (both ps qs x y z) = changed ps qs (stop la x) (stop la y) z
-      go l ag (graft d ps qs x y z w v) = changed ps qs (stop la x) (more d y (leads_ends l qs 0 d (suc a) z w)) v
-      go l ag (prune d ps x y z w v) =
-          let u = dead d x in
-          let e : u.0 ≡ ps = tomb_is u.2 z in
-          let ls : suc a ≤ 7 = low (hash l) (suc a) d (walk_on chunk M (hash l) a c d (walk_agree chunk M (hash l) h a ag ∙ reached) y) in
-          changed ps ps (more d y (stop ls (u.1 (chunk (hash l) (suc a)) ∙ ap stands e))) (stop la w) v
+  ready_effect = swap_effect same hash chunk M N one h a c reached but R r.far (λ l ag.
+      let la : a ≤ 7 = low h a c reached in
+      elim (r.near l ag) [
+        | as_was e x ↦ kept e x
+        | both ps qs x y z ↦ changed ps qs (stop la x) (stop la y) z
+        | graft d ps qs x y z w v ↦ changed ps qs (stop la x) (more d y (leads_ends l qs 0 d (suc a) z w)) v
+        | prune d ps x y z w v ↦
+            let u = dead d x in
+            let s : tomb ≡ stands u.0 = u.2 in
+            let e : u.0 ≡ ps = cc in
+            let ls : suc a ≤ 7 = low (hash l) (suc a) d (walk_on chunk M (hash l) a c d (walk_agree chunk M (hash l) h a ag ∙ reached) y) in
+            changed ps ps (more d y (stop ls (u.1 (chunk (hash l) (suc a)) ∙ ap stands e))) (stop la w) v
+      ])

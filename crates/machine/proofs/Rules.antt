@@ -1,29 +1,26 @@
 -- Each thing that a turn may prepare keeps the rules of mains.
-use mathlib.Core.Path.{◌≡◌, refl, sym, ap, ◌∙◌}
+use mathlib.Core.Path.{◌≡◌, sym, ap, ◌∙◌}
 use mathlib.Core.Bool.{Bool}
 use mathlib.Core.List.{List, [], ◌∷◌, ◌++◌}
 use mathlib.Core.Option.{Option, some}
-use mathlib.Core.Logic.{◌⊎◌, inl, inr, ◌≢◌}
+use mathlib.Core.Logic.{inl, inr, ◌≢◌}
 use Prim.Native.Nat.{ℕ, zero, suc, ◌+◌, ◌<◌, ◌≤◌}
 use native.Mathlib.Omega.{arith}
 use native.Mathlib.Decide.{ℕ_discrete}
 use lib.Dec.{T}
 use lib.ListN.{length, get_or, set}
+use Rattle.std.proofs.lemmas.List.{length-append}
 use lib.Seq.{get_or-set_same, get_or-set_other}
 use Rattle.machine.specs.Tree.{NoTwice, In, here, later, nth}
 use Rattle.machine.specs.Machine.{Taken, Branch, nothing, pair, cell, Main, many, Mem, gather, main, Op, Prepares, Cleans, Chain}
 use Rattle.machine.proofs.Worth.{none_pair}
 use Rattle.machine.proofs.Walk.{no_some}
-use Rattle.machine.proofs.Members.{in_last, find_lacks}
-use Rattle.machine.proofs.Split.{no_pair, cell_pair, second}
+use Rattle.machine.proofs.Members.{in_one, in_last, find_lacks}
+use Rattle.machine.proofs.Split.{no_pair, cell_pair, second, chain_low}
 use Rattle.machine.proofs.Prepare.{gather_last}
 use Rattle.machine.specs.Rules.{NodeRule, Rule}
 use Rattle.machine.proofs.Chunk.{Chunks}
 use Rattle.machine.proofs.Laws.{Laws}
-
-length_last : (ps : List ℕ) (p : ℕ) → length (ps ++ (p ∷ [])) ≡ suc (length ps)
-length_last [] p = refl
-length_last (r ∷ ps) p = ap suc (length_last ps p)
 
 taken_there : (bs : List Branch) (q r : ℕ) (b : Branch) → r ≢ q → Taken (get_or bs r nothing) → Taken (get_or (set bs q b) r nothing)
 taken_there bs q r b ne t = rw (get_or-set_other bs q r b nothing ne) t
@@ -31,99 +28,67 @@ taken_there bs q r b ne t = rw (get_or-set_other bs q r b nothing ne) t
 -- A branch is set at a chunk: a pair needs another branch beside it.
 rule_set : (a : ℕ) (bs : List Branch) (q : ℕ) (b : Branch) → NodeRule a bs → q < length bs → q < 32 → Taken b
     → ((u : ℕ) → b ≡ pair u → 0 < a → (r : ℕ) × (r ≢ q) × Taken (get_or bs r nothing)) → NodeRule a (set bs q b)
-rule_set a bs q b z l small t more = record {
-  high = z.high;
-  chunks = λ r x. chunks r x (ℕ_discrete r q);
-  any = λ p. (q, at_q);
-  beside = λ p r u e. beside p r u e (ℕ_discrete r q);
-}
-  where
-    at_q : Taken (get_or (set bs q b) q nothing)
-    at_q = rw (get_or-set_same bs q b nothing l) t
-
-    chunks : (r : ℕ) → Taken (get_or (set bs q b) r nothing) → Dec (r ≡ q) → r < 32
-    chunks r x (yes e) = rw e small
-    chunks r x (no ne) = z.chunks r (rw (get_or-set_other bs q r b nothing ne) at x)
-
-    beside : 0 < a → (r u : ℕ) → get_or (set bs q b) r nothing ≡ pair u → Dec (r ≡ q) → (w : ℕ) × (w ≢ r) × Taken (get_or (set bs q b) w nothing)
-    beside p r u e (yes f) =
-        let m = more u (sym (get_or-set_same bs q b nothing l) ∙ (rw f at e)) p in
-        (m.0, λ g. m.1 (g ∙ f), taken_there bs q m.0 b m.1 m.2)
-    beside p r u e (no ne) = (q, λ g. ne (sym g), at_q)
+rule_set a bs q b z l small t more =
+    let at_q : Taken (get_or (set bs q b) q nothing) = rw (get_or-set_same bs q b nothing l) t in
+    record {
+      high = z.high;
+      chunks = λ r x. elim (ℕ_discrete r q) [ yes e ↦ rw e small | no ne ↦ z.chunks r (rw (get_or-set_other bs q r b nothing ne) at x) ];
+      any = λ p. (q, at_q);
+      beside = λ p r u e. elim (ℕ_discrete r q) [
+        | yes f ↦
+            let m = more u (sym (get_or-set_same bs q b nothing l) ∙ (rw f at e)) p in
+            (m.0, λ g. m.1 (g ∙ f), taken_there bs q m.0 b m.1 m.2)
+        | no ne ↦ (q, λ g. ne (sym g), at_q)
+      ];
+    }
 
 -- A pair is taken out.
 rule_drop : (a : ℕ) (bs : List Branch) (q p : ℕ) → NodeRule a bs → q < length bs → get_or bs q nothing ≡ pair p
     → (0 < a → (r u : ℕ) → r ≢ q → get_or bs r nothing ≡ pair u → (w : ℕ) × (w ≢ q) × (w ≢ r) × Taken (get_or bs w nothing)) → NodeRule a (set bs q nothing)
 rule_drop a bs q p z l at stays = record {
   high = z.high;
-  chunks = λ r x. chunks r x (ℕ_discrete r q);
+  chunks = λ r x. grind (arith, get_or-set_same bs q nothing nothing l, get_or-set_other bs q r nothing nothing, z.chunks r);
   any = λ pos. let m = z.beside pos q p at in (m.0, taken_there bs q m.0 nothing m.1 m.2);
-  beside = λ pos r u e. beside pos r u e (ℕ_discrete r q);
-}
-  where
-    chunks : (r : ℕ) → Taken (get_or (set bs q nothing) r nothing) → Dec (r ≡ q) → r < 32
-    chunks r x (yes e) = absurd (rw (e, get_or-set_same bs q nothing nothing l) at x)
-    chunks r x (no ne) = z.chunks r (rw (get_or-set_other bs q r nothing nothing ne) at x)
-
-    beside : 0 < a → (r u : ℕ) → get_or (set bs q nothing) r nothing ≡ pair u → Dec (r ≡ q) → (w : ℕ) × (w ≢ r) × Taken (get_or (set bs q nothing) w nothing)
-    beside pos r u e (yes f) = absurd (no_pair (sym (get_or-set_same bs q nothing nothing l) ∙ (rw f at e)))
-    beside pos r u e (no ne) =
+  beside = λ pos r u e. elim (ℕ_discrete r q) [
+    | yes f ↦ absurd (no_pair (sym (get_or-set_same bs q nothing nothing l) ∙ (rw f at e)))
+    | no ne ↦
         let m = stays pos r u ne (sym (get_or-set_other bs q r nothing nothing ne) ∙ e) in
         (m.0, m.2, taken_there bs q m.0 nothing m.1 m.3)
+  ];
+}
 
 -- A branch node with two pairs.
 rule_two : (a : ℕ) (bs : List Branch) (q r u v : ℕ) → a ≤ 6 → q < 32 → r < 32 → q ≢ r → get_or bs q nothing ≡ pair u → get_or bs r nothing ≡ pair v
     → ((j : ℕ) → j ≢ q → j ≢ r → get_or bs j nothing ≡ nothing) → NodeRule a bs
 rule_two a bs q r u v l sq sr ne eq er others = record {
   high = l;
-  chunks = λ j x. chunks j x (ℕ_discrete j q) (ℕ_discrete j r);
+  chunks = λ j x. grind (arith, others j);
   any = λ p. (q, rw eq tt);
-  beside = λ p j w e. beside j w e (ℕ_discrete j q) (ℕ_discrete j r);
+  beside = λ p j w e. elim (ℕ_discrete j q) [
+    | yes f ↦ (r, λ g. ne (sym (g ∙ f)), rw er tt)
+    | no f ↦ elim (ℕ_discrete j r) [ yes g ↦ (q, λ i. ne (i ∙ g), rw eq tt) | no g ↦ absurd (no_pair (sym (others j f g) ∙ e)) ]
+  ];
 }
-  where
-    chunks : (j : ℕ) → Taken (get_or bs j nothing) → Dec (j ≡ q) → Dec (j ≡ r) → j < 32
-    chunks j x (yes e) d = rw e sq
-    chunks j x (no e) (yes f) = rw f sr
-    chunks j x (no e) (no f) = absurd (rw (others j e f) at x)
-
-    beside : (j w : ℕ) → get_or bs j nothing ≡ pair w → Dec (j ≡ q) → Dec (j ≡ r) → (i : ℕ) × (i ≢ j) × Taken (get_or bs i nothing)
-    beside j w e (yes f) d = (r, λ g. ne (sym (g ∙ f)), rw er tt)
-    beside j w e (no f) (yes g) = (q, λ i. ne (i ∙ g), rw eq tt)
-    beside j w e (no f) (no g) = absurd (no_pair (sym (others j f g) ∙ e))
 
 -- A branch node with one cell.
 rule_link : (a : ℕ) (bs : List Branch) (q d : ℕ) → a ≤ 6 → q < 32 → get_or bs q nothing ≡ cell d → ((j : ℕ) → j ≢ q → get_or bs j nothing ≡ nothing) → NodeRule a bs
 rule_link a bs q d l sq eq others = record {
   high = l;
-  chunks = λ j x. chunks j x (ℕ_discrete j q);
+  chunks = λ j x. elim (ℕ_discrete j q) [ yes e ↦ rw e sq | no e ↦ absurd (rw (others j e) at x) ];
   any = λ p. (q, rw eq tt);
-  beside = λ p j w e. absurd (beside j w e (ℕ_discrete j q));
+  beside = λ p j w e. absurd (elim (ℕ_discrete j q) [ yes f ↦ cell_pair (sym eq ∙ (rw f at e)) | no f ↦ no_pair (sym (others j f) ∙ e) ]);
 }
-  where
-    chunks : (j : ℕ) → Taken (get_or bs j nothing) → Dec (j ≡ q) → j < 32
-    chunks j x (yes e) = rw e sq
-    chunks j x (no e) = absurd (rw (others j e) at x)
-
-    beside : (j w : ℕ) → get_or bs j nothing ≡ pair w → Dec (j ≡ q) → ⊥
-    beside j w e (yes f) = cell_pair (sym eq ∙ (rw f at e))
-    beside j w e (no f) = no_pair (sym (others j f) ∙ e)
 
 module _ {K : Type 0} (same : K → K → Bool) (hash : K → ℕ) (chunk : ℕ → ℕ → ℕ) (laws : Laws same hash) (chunks : Chunks chunk) where
   -- A list without a key twice, and at its end a key that it lacks.
   no_twice_last : (ps : List (K × ℕ)) (k : K) (v : ℕ) → NoTwice same ps → ((x : K × ℕ) → In x ps → ¬ T (same x.0 k)) → NoTwice same (ps ++ ((k, v) ∷ []))
   no_twice_last [] k v n f = ((λ y j. elim j [ ]), tt)
-  no_twice_last (p ∷ ps) k v n f = ((λ y j. at y (in_last ps (k, v) y j)), no_twice_last ps k v n.1 (λ x j. f x (later j)))
-    where
-      at : (y : K × ℕ) → In y ps ⊎ ((k, v) ≡ y) → T (same p.0 y.0) → ⊥
-      at y (inl j) t = n.0 y j t
-      at y (inr e) t = f p here (rw (← e) at t)
+  no_twice_last (p ∷ ps) k v n f = (
+    λ y j t. elim (in_last ps (k, v) y j) [ inl i ↦ n.0 y i t | inr e ↦ f p here (rw (← e) at t) ],
+    no_twice_last ps k v n.1 (λ x j. f x (later j)),
+  )
 
   -- The chain of a split keeps the rules.
-  chain_low : {m : Mem K} {k : K} {r p : ℕ} {x : K × ℕ} {i : ℕ} {new : List (ℕ × ℕ)} → Chain same hash chunk m k r p x i new → i ≤ 7
-  chain_low (Chain.ends i d n bs l e ne g1 g2 g3) = omega arith
-  chain_low (Chain.ends_list i d n l e) = omega arith
-  chain_low (Chain.links i d n d' n' bs new e ag g1 g2 c) = let z = chain_low c in omega arith
-
   chain_rule : {m : Mem K} {k : K} {r p : ℕ} {x : K × ℕ} {i : ℕ} {new : List (ℕ × ℕ)} (v : ℕ) → nth m.pairs r ≡ some x → nth m.pairs p ≡ some (k, v) → (T (same x.0 k) → ⊥)
       → Chain same hash chunk m k r p x i new
       → (t d y : ℕ) → nth new t ≡ some (d, y) → Rule same m.pairs (i + t) (main m y)
@@ -131,40 +96,25 @@ module _ {K : Type 0} (same : K → K → Bool) (hash : K → ℕ) (chunk : ℕ 
       let z : n ≡ y = ap second q in
       let j : i + 0 ≡ i = omega arith in
       rw (j, ← z, e) (rule_two i bs (chunk (hash x.0) i) (chunk (hash k) i) r p l (chunks.small (hash x.0) i) (chunks.small (hash k) i) ne g1 g2 g3)
-  chain_rule v cr cp na (Chain.ends i d n bs l e ne g1 g2 g3) (suc u) f y q = absurd (no_some q)
-  chain_rule {m = m} {k = k} {r = r} {p = p} {x = x} v cr cp na (Chain.ends_list i d n l e) zero f y q =
+  chain_rule {k = k} {r = r} {p = p} {x = x} v cr cp na (Chain.ends_list i d n l e) zero f y q =
       let z : n ≡ y = ap second q in
       let j : i + 0 ≡ i = omega arith in
-      rw (j, ← z, e) (l, omega arith, omega arith, two)
-    where
-      two : NoTwice same (gather m.pairs (r ∷ p ∷ []))
-      two = rw (cr, cp) ((λ y j t. other y j t), ((λ y j. elim j [ ]), tt))
-        where
-          other : (y : K × ℕ) → In y ((k, v) ∷ []) → T (same x.0 y.0) → ⊥
-          other y (In.here) t = na t
-          other y (In.later j) t = elim j [ ]
-  chain_rule v cr cp na (Chain.ends_list i d n l e) (suc u) f y q = absurd (no_some q)
+      rw (j, ← z, e) (l, omega arith, omega arith, rw (cr, cp) ((λ y j t. na (rw (in_one y (k, v) j) at t)), ((λ y j. elim j [ ]), tt)))
   chain_rule {k = k} v cr cp na (Chain.links i d n d' n' bs new e ag g1 g2 c) zero f y q =
       let z : n ≡ y = ap second q in
       let j : i + 0 ≡ i = omega arith in
-      let l = chain_low c in
+      let l = chain_low same hash chunk c in
       rw (j, ← z, e) (rule_link i bs (chunk (hash k) i) d' (omega arith) (chunks.small (hash k) i) g1 g2)
   chain_rule v cr cp na (Chain.links i d n d' n' bs new e ag g1 g2 c) (suc u) f y q =
       let j : i + suc u ≡ suc i + u = omega arith in
       rw j (chain_rule v cr cp na c u f y q)
+  chain_rule v cr cp na c t f y q = absurd (no_some q)
 
   -- The mains of the new cells keep the rules.
   pub prepares_new_rule : {m : Mem K} {X : Main} {a : ℕ} {o : Op K} {Y : Main} {mp : Option ℕ} {new : List (ℕ × ℕ)} → Prepares same hash chunk m X a o Y mp new
       → (t d y : ℕ) → nth new t ≡ some (d, y) → Rule same m.pairs (suc a + t) (main m y)
-  prepares_new_rule (Prepares.adds k v bs p x l z slot) t d y q = absurd (no_some q)
-  prepares_new_rule (Prepares.replaces k v bs r p x xe l z slot yy slot_p) t d y q = absurd (no_some q)
-  prepares_new_rule (Prepares.extends k v ps p xe ab slot short) t d y q = absurd (no_some q)
-  prepares_new_rule (Prepares.alters k v ps qs p xe slot np nq len ip names old kept) t d y q = absurd (no_some q)
-  prepares_new_rule (Prepares.shrinks k ps qs x xe ix tx np nq two len names old off kept) t d y q = absurd (no_some q)
-  prepares_new_rule (Prepares.buries k ps r x z xe ix tx np ir slot iz nz all pos) t d y q = absurd (no_some q)
-  prepares_new_rule (Prepares.drops k bs p x xe l z slot yy stays) t d y q = absurd (no_some q)
-  prepares_new_rule (Prepares.entombs k bs p x r qq yy xe z slot u ne zr slot_r others pos) t d y q = absurd (no_some q)
   prepares_new_rule (Prepares.splits k v bs r p x dd n rest xe l z slot apart slot_p chain) t d y q = chain_rule v slot slot_p apart chain t d y q
+  prepares_new_rule pr t d y q = absurd (no_some q)
 
   -- The pair that is made is in the memory.
   pub prepares_slot : {m : Mem K} {X : Main} {a : ℕ} {o : Op K} {Y : Main} {mp : Option ℕ} {new : List (ℕ × ℕ)} → Prepares same hash chunk m X a o Y mp new
@@ -173,11 +123,8 @@ module _ {K : Type 0} (same : K → K → Bool) (hash : K → ℕ) (chunk : ℕ 
   prepares_slot (Prepares.replaces k v bs r p x xe l z slot yy slot_p) s q = let e : p ≡ s = cc in ((k, v), rw (← e) slot_p)
   prepares_slot (Prepares.extends k v ps p xe ab slot short) s q = let e : p ≡ s = cc in ((k, v), rw (← e) slot)
   prepares_slot (Prepares.alters k v ps qs p xe slot np nq len ip names old kept) s q = let e : p ≡ s = cc in ((k, v), rw (← e) slot)
-  prepares_slot (Prepares.shrinks k ps qs x xe ix tx np nq two len names old off kept) s q = absurd (no_some q)
-  prepares_slot (Prepares.buries k ps r x z xe ix tx np ir slot iz nz all pos) s q = absurd (no_some q)
-  prepares_slot (Prepares.drops k bs p x xe l z slot yy stays) s q = absurd (no_some q)
-  prepares_slot (Prepares.entombs k bs p x r qq yy xe z slot u ne zr slot_r others pos) s q = absurd (no_some q)
   prepares_slot (Prepares.splits k v bs r p x dd n rest xe l z slot apart slot_p chain) s q = let e : p ≡ s = cc in ((k, v), rw (← e) slot_p)
+  prepares_slot pr s q = absurd (no_some q)
 
   -- The main that a read prepares keeps the rules, if the main that was read does.
   pub prepares_rule : {m : Mem K} {X : Main} {a : ℕ} {o : Op K} {Y : Main} {mp : Option ℕ} {new : List (ℕ × ℕ)} → Prepares same hash chunk m X a o Y mp new
@@ -195,11 +142,10 @@ module _ {K : Type 0} (same : K → K → Bool) (hash : K → ℕ) (chunk : ℕ 
       rule_set a bs (chunk (hash k) a) (pair p) n l (chunks.small (hash k) a) tt (λ u e pos. n.beside pos (chunk (hash k) a) r' z)
   prepares_rule {m = m} {a = a} (Prepares.extends k v ps p xe ab slot short) r =
       let n : Rule same m.pairs a (many ps) = rw xe at r in
-      let long = length_last ps p in
       let two = n.1 in (
         n.0,
-        omega arith,
-        omega arith,
+        omega (arith, length-append ps (p ∷ [])),
+        omega (arith, length-append ps (p ∷ [])),
         rw (gather_last m.pairs ps p (k, v) slot)
             (no_twice_last (gather m.pairs ps) k v n.3 (find_lacks same hash laws k (gather m.pairs ps) (none_pair same k (gather m.pairs ps) ab))),
       )

@@ -1,39 +1,33 @@
 -- Where every reached main keeps the rules and none is a tomb, the tree is sound, so it is compact.
-use mathlib.Core.Path.{◌≡◌, refl, sym, ap, ◌∙◌}
+use mathlib.Core.Path.{◌≡◌, refl}
 use mathlib.Core.Bool.{Bool}
 use mathlib.Core.List.{List, [], ◌∷◌}
 use mathlib.Core.Option.{Option, none, some}
-use mathlib.Core.Logic.{◌⊎◌, inl, inr, ◌≢◌}
+use mathlib.Core.Logic.{inl, inr, ◌≢◌}
 use Prim.Native.Nat.{ℕ, ◌<◌, ◌≤◌}
 use native.Mathlib.Omega.{arith}
 use lib.Dec.{T}
 use lib.ListN.{length, get_or}
 use Rattle.machine.specs.Tree.{NoTwice, stands, on, walk, In, here, later, nth}
 use Rattle.machine.specs.Machine.{Taken, Branch, nothing, pair, cell, Main, node, tomb, many, IsFlat, Mem, lone, spot, gather, face, word, main, view}
-use Rattle.machine.proofs.Graft.{clash}
 use Rattle.machine.proofs.Inv.{Shape}
-use Rattle.machine.proofs.Keep.{lone_on}
+use Rattle.machine.proofs.Keep.{face_cell}
 use Rattle.machine.specs.Rest.{Compact}
 use Rattle.machine.specs.Rules.{NodeRule, Rule, Ruled, NoTombs}
 use Rattle.machine.proofs.Chunk.{Chunks}
 use Rattle.machine.proofs.Laws.{Laws}
-use Rattle.machine.proofs.Rest.{Even, Rich, Sound, pairs_are, compact}
+use Rattle.machine.proofs.Rest.{Rich, Sound, compact}
 use Rattle.machine.proofs.Members.{in_one}
 
 module _ {K : Type 0} (same : K → K → Bool) (hash : K → ℕ) (laws : Laws same hash) where
   -- Above index 7 one spot shows no two different pairs.
   lone_one : (o : Option (K × ℕ)) (ps : List (K × ℕ)) (x y : K × ℕ) → lone o ≡ stands ps → In x ps → In y ps → T (same x.0 y.0)
-  lone_one none ps x y e i j = let f : ps ≡ [] = sym (pairs_are e) in let i' : In x [] = rw f at i in elim i' [ ]
-  lone_one (some z) ps x y e i j =
-      let f : ps ≡ z ∷ [] = sym (pairs_are e) in
-      let p : x ≡ z = in_one x z (rw f at i) in
-      let q : y ≡ z = in_one y z (rw f at j) in
-      rw (p, q) (laws.reflexive z.0)
+  lone_one o ps x y e i j = grind (arith, in_one, laws.reflexive)
 
   spot_one : (pairs : List (K × ℕ)) (b : Branch) (ps : List (K × ℕ)) (x y : K × ℕ) → spot pairs b ≡ stands ps → In x ps → In y ps → T (same x.0 y.0)
-  spot_one pairs nothing ps x y e i j = lone_one none ps x y e i j
-  spot_one pairs (pair p) ps x y e i j = lone_one (nth pairs p) ps x y e i j
-  spot_one pairs (cell c) ps x y e i j = absurd (clash (sym e))
+  spot_one pairs b ps x y e i j =
+      let f = λ (p : ℕ). lone_one (nth pairs p) ps x y in
+      let g = lone_one none ps x y in grind arith
 
   face_one : (pairs : List (K × ℕ)) (X : Main) (i q : ℕ) (ps : List (K × ℕ)) (x y : K × ℕ) → Rule same pairs i X → i < 7
       → face pairs X q ≡ stands ps → In x ps → In y ps → T (same x.0 y.0)
@@ -41,49 +35,29 @@ module _ {K : Type 0} (same : K → K → Bool) (hash : K → ℕ) (laws : Laws 
   face_one pairs (tomb p) i q ps x y r l e = lone_one (nth pairs p) ps x y e
   face_one pairs (many ms) i q ps x y r l e = absurd (let z : i ≡ 7 = r.0 in omega arith)
 
-  -- A flat main shows the same at every chunk.
-  flat_even : (pairs : List (K × ℕ)) (X : Main) → IsFlat X → (q r : ℕ) → face pairs X q ≡ face pairs X r
-  flat_even pairs (node bs) f q r = absurd f
-  flat_even pairs (tomb p) f q r = refl
-  flat_even pairs (many ps) f q r = refl
-
   -- A cell is named at a chunk below 32.
   face_on : (pairs : List (K × ℕ)) (X : Main) (i q d : ℕ) → Rule same pairs i X → face pairs X q ≡ on d → q < 32
-  face_on pairs (node bs) i q d r e = go (get_or bs q nothing) refl e
-    where
-      go : (b : Branch) → get_or bs q nothing ≡ b → spot pairs b ≡ on d → q < 32
-      go nothing x e = absurd (clash e)
-      go (pair p) x e = r.chunks q (rw x tt)
-      go (cell c) x e = r.chunks q (rw x tt)
-  face_on pairs (tomb p) i q d r e = absurd (lone_on (nth pairs p) d e)
-  face_on pairs (many ps) i q d r e = absurd (clash e)
+  face_on pairs X i q d r e = grind (arith, face_cell)
 
   module _ (chunk : ℕ → ℕ → ℕ) (m : Mem K) (shape : Shape same hash chunk m) (ruled : Ruled same chunk m) (no_tombs : NoTombs chunk m) (chunks : Chunks chunk) where
     -- Two pairs at two chunks of a branch node are different.
     apart : (h i c q r : ℕ) (bs : List Branch) (x y : K × ℕ) → walk chunk (view m) h i ≡ some c → main m (word m c) ≡ node bs → r ≢ q
         → view m c q ≡ stands (x ∷ []) → view m c r ≡ stands (y ∷ []) → T (same x.0 y.0) → ⊥
-    apart h i c q r bs x y w e ne vx vy t = go (stand q x vx) (stand r y vy)
-      where
-        no_flat : IsFlat (main m (word m c)) → ⊥
-        no_flat f = rw e at f
-
-        stand : (q : ℕ) (x : K × ℕ) → view m c q ≡ stands (x ∷ []) → (chunk (hash x.0) i ≡ q) ⊎ IsFlat (main m (word m c))
-        stand q x v = (shape.placed h i c q (x ∷ []) x w v here).proper
-
-        go : (chunk (hash x.0) i ≡ q) ⊎ IsFlat (main m (word m c)) → (chunk (hash y.0) i ≡ r) ⊎ IsFlat (main m (word m c)) → ⊥
-        go (inl a) (inl b) = ne (sym b ∙ ap (λ h. chunk h i) (sym (laws.hashes x.0 y.0 t)) ∙ a)
-        go (inl a) (inr b) = no_flat b
-        go (inr a) b = no_flat a
+    apart h i c q r bs x y w e ne vx vy t =
+        let no_flat : IsFlat (main m (word m c)) → ⊥ = λ f. rw e at f in
+        let px = (shape.placed h i c q (x ∷ []) x w vx here).proper in
+        let py = (shape.placed h i c r (y ∷ []) y w vy here).proper in
+        let hs = laws.hashes x.0 y.0 t in
+        grind arith
 
     -- A list that keeps the rules has two different pairs.
     two : (ps : List ℕ) → 2 ≤ length ps → ((p : ℕ) → In p ps → (x : K × ℕ) × (nth m.pairs p ≡ some x)) → NoTwice same (gather m.pairs ps)
         → (x y : K × ℕ) × In x (gather m.pairs ps) × In y (gather m.pairs ps) × (T (same x.0 y.0) → ⊥)
-    two [] l f n = absurd (omega arith)
-    two (p ∷ []) l f n = absurd (omega arith)
     two (p ∷ r ∷ ps) l f n =
         let x = f p here in let y = f r (later here) in
         let n' = rw (x.1, y.1) at n in
         (x.0, y.0, rw x.1 here, rw (x.1, y.1) (later here), n'.0 y.0 here)
+    two ps l f n = absurd (omega arith)
 
     -- A reached cell below the root has a cell after it, or two different pairs.
     rich : (h i c : ℕ) → walk chunk (view m) h i ≡ some c → 1 ≤ i → Rich same (view m) c
@@ -122,15 +96,13 @@ module _ {K : Type 0} (same : K → K → Bool) (hash : K → ℕ) (laws : Laws 
     unfolding view
     sound = record {
       low = shape.low;
-      placed = λ h i c q ps x w e j. let z = shape.placed h i c q ps x w e j in record { agrees = z.agrees; proper = even c i q x z.proper };
+      placed = λ h i c q ps x w e j.
+          let z = shape.placed h i c q ps x w e j in
+          record { agrees = z.agrees; proper = elim z.proper [ inl y ↦ inl y | inr y ↦ inr (λ a b. grind arith) ] };
       rich = rich;
       single = λ h i c q ps x y w l e. face_one m.pairs (main m (word m c)) i q ps x y (ruled h i c w).rule l e;
       led = λ h i c q d w e. chunks.turn h i q (face_on m.pairs (main m (word m c)) i q d (ruled h i c w).rule e);
     }
-      where
-        even : (c i q : ℕ) (x : K × ℕ) → (chunk (hash x.0) i ≡ q) ⊎ IsFlat (main m (word m c)) → (chunk (hash x.0) i ≡ q) ⊎ Even (view m) c
-        even c i q x (inl e) = inl e
-        even c i q x (inr f) = inr (flat_even m.pairs (main m (word m c)) f)
 
     pub rests_compact : Compact same hash chunk (view m)
     rests_compact = compact same hash chunk (view m) sound

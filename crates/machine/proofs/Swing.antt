@@ -7,33 +7,23 @@ use mathlib.Core.Logic.{◌⊎◌, inl, inr, ◌≢◌}
 use Prim.Native.Nat.{ℕ, zero, suc, ◌+◌, ◌<◌, ◌≤◌}
 use native.Mathlib.Omega.{arith}
 use native.Mathlib.Decide.{ℕ_discrete}
-use lib.ListN.{length, get_or, length-set}
+use lib.ListN.{length, length-set, get_or-eq_default}
 use lib.Seq.{get_or-set_same, get_or-set_other}
-use Rattle.machine.specs.Tree.{Level, Spot, stands, walk, In, nth}
-use Rattle.machine.specs.Machine.{Branch, nothing, Main, node, tomb, many, IsTomb, IsFlat, HasPair, Mem, spot, face, word, main, view, key, Seat, idle, read, swap, parent, clean, Expects, MakesMain, MakesPair, MakesCell, swung}
+use Rattle.machine.specs.Tree.{Level, stands, walk, In, nth}
+use Rattle.machine.specs.Machine.{nothing, Main, node, tomb, IsTomb, IsFlat, Mem, face, word, main, view, key, Seat, idle, read, swap, parent, clean, Expects, MakesMain, MakesPair, MakesCell, swung}
 use Rattle.machine.specs.Pairs.{lookup_pair}
-use Rattle.machine.proofs.Walk.{no_some, walk_on}
+use Rattle.machine.proofs.Walk.{no_some}
 use Rattle.machine.proofs.Ready.{Ready, ready_back, ready_new, ready_on, ready_one, ready_placed, ready_effect}
 use Rattle.machine.proofs.Inv.{MainFree, PairFree, At, PathOK, Does, Same, tspot, cells, faces, Pend, SeatOK, Shape}
-use Rattle.machine.proofs.Keep.{is_reached, view_cell, tomb_face}
-
--- Past its end a branch node holds nothing.
-past : (bs : List Branch) (i : ℕ) → length bs ≤ i → get_or bs i nothing ≡ nothing
-past [] i l = refl
-past (b ∷ bs) zero l = absurd (omega arith)
-past (b ∷ bs) (suc i) l = past bs i (omega arith)
+use Rattle.machine.proofs.Keep.{pend_reached, pend_cut, named, tomb_face}
 
 -- A main that shows a pair at every chunk is flat.
 level_flat : {K : Type 0} (pairs : List (K × ℕ)) (X : Main) (q : ℕ) (ps : List (K × ℕ)) (x : K × ℕ) → face pairs X q ≡ stands ps → In x ps → Level (face pairs X) → IsFlat X
-level_flat pairs (tomb p) q ps x e i l = tt
-level_flat pairs (many rs) q ps x e i l = tt
-level_flat {K} pairs (node bs) q ps x e i l =
-    let z : spot pairs (get_or bs q nothing) ≡ spot pairs (get_or bs (length bs) nothing) = l q (length bs) in
-    let z' : spot pairs (get_or bs q nothing) ≡ stands [] = (rw (past bs (length bs) (omega arith)) at z) in
-    let f : ◌≡◌ {A = Spot K} (stands ps) (stands []) = sym e ∙ z' in
-    let g : ps ≡ [] = cc in
-    let j : In x [] = rw g at i in
-    elim j [ ]
+level_flat pairs (node bs) q ps x e i l =
+    let z = l q (length bs) in
+    let p = get_or-eq_default bs nothing {n = length bs} (omega arith) in
+    let g : ps ≡ [] = grind arith in let j : In x [] = rw g at i in elim j [ ]
+level_flat pairs X q ps x e i l = tt
 
 -- A new cell has its main.
 pub nth_cells : (new : List (ℕ × ℕ)) (t d : ℕ) → nth (cells new) t ≡ some d → (x : ℕ) × (nth new t ≡ some (d, x))
@@ -52,9 +42,9 @@ module _ {K : Type 0} (same : K → K → Bool) (hash : K → ℕ) (chunk : ℕ 
   pub solid_c : IsTomb (main m (word m c)) → ⊥
   solid_c x = pend.solid (rw holds at x)
 
-  -- The cell that is swapped holds no tomb, so it is reached.
+  -- So it is reached.
   pub reached : walk chunk (view m) (hash k) (length cs) ≡ some c
-  reached = is_reached same hash chunk m k (length cs) c pend.path.0 solid_c
+  reached = pend_reached same hash chunk m R k c cs e n mp td new pend holds
 
   pub in_words : c < length m.words
   in_words = shape.in_words (hash k) (length cs) c reached
@@ -65,6 +55,10 @@ module _ {K : Type 0} (same : K → K → Bool) (hash : K → ℕ) (chunk : ℕ 
 
   pub word_there : (d : ℕ) → d ≢ c → word m' d ≡ word m d
   word_there d ne = get_or-set_other m.words c d n 0 ne
+
+  -- A cell that holds another main than the new one held it before.
+  pub word_was : (d x : ℕ) → n ≢ x → word m' d ≡ x → word m d ≡ x
+  word_was d x ne w = elim (ℕ_discrete d c) [ yes p ↦ absurd (ne (sym word_here ∙ (rw p at w))) | no p ↦ sym (word_there d p) ∙ w ]
 
   pub view_there : (d : ℕ) → d ≢ c → (q : ℕ) → view m' d q ≡ view m d q
   unfolding view
@@ -142,31 +136,21 @@ module _ {K : Type 0} (same : K → K → Bool) (hash : K → ℕ) (chunk : ℕ 
   pub shape_swung : Shape same hash chunk m'
   shape_swung = record {
     one = ready_one same hash chunk R (view m) (view m') (hash k) (length cs) c td (tspot same hash chunk m td) (cells new) (faces m new) shape.one shape.low reached view_there Flat Flat' flatly dead free once new_faces new_flats ready;
-    low = λ g i d w. low g i d (back g i d w);
-    in_words = λ g i d w. rw length-set (inside g i d (back g i d w));
+    low = λ g i d w. elim (back g i d w) [ inl v ↦ shape.low g i d v | inr v ↦ v.2 ];
+    in_words = λ g i d w. rw length-set (elim (back g i d w) [
+      | inl v ↦ shape.in_words g i d v
+      | inr v ↦ let y = nth_cells new v.0 d v.1 in pend.inside v.0 d y.0 y.1
+    ]);
     placed = ready_placed same hash chunk R (view m) (view m') (hash k) (length cs) c td (tspot same hash chunk m td) (cells new) (faces m new) shape.one shape.low reached view_there Flat Flat' flatly dead free once new_faces new_flats ready shape.placed;
   }
-    where
-      low : (g i d : ℕ) → (walk chunk (view m) g i ≡ some d) ⊎ ((t : ℕ) × (nth (cells new) t ≡ some d) × (i ≤ 7)) → i ≤ 7
-      low g i d (inl w) = shape.low g i d w
-      low g i d (inr w) = w.2
-
-      inside : (g i d : ℕ) → (walk chunk (view m) g i ≡ some d) ⊎ ((t : ℕ) × (nth (cells new) t ≡ some d) × (i ≤ 7)) → d < length m.words
-      inside g i d (inl w) = shape.in_words g i d w
-      inside g i d (inr w) = let y = nth_cells new w.0 d w.1 in pend.inside w.0 d y.0 y.1
 
   -- The cell that the swap cuts off was reached until then.
   pub reached_d : (d : ℕ) → td ≡ some d → walk chunk (view m) (hash k) (suc (length cs)) ≡ some d
-  reached_d d x = walk_on chunk (view m) (hash k) (length cs) c d reached (view_cell m c (chunk (hash k) (length cs)) d (rw holds (pend.links d x)))
+  reached_d = pend_cut same hash chunk m R k c cs e n mp td new pend holds
 
   -- A path stays good: a cell that is cut off holds a tomb.
   at_swung : (l : K) (i d : ℕ) → At same hash chunk m l i d → At same hash chunk m' l i d
-  at_swung l i d (inr t) = inr (flat d (tomb_else d t) t)
-  at_swung l i d (inl w) = go (onward (hash l) i d w)
-    where
-      go : (walk chunk (view m') (hash l) i ≡ some d) ⊎ (td ≡ some d) → At same hash chunk m' l i d
-      go (inl v) = inl v
-      go (inr x) = inr (flat d (tomb_else d (pend.tomb_at_lem d x)) (pend.tomb_at_lem d x))
+  at_swung l i d z = let o = onward (hash l) i d in grind (arith, flat, tomb_else, pend.tomb_at_lem)
 
   pub path_swung : (l : K) (ds : List ℕ) → PathOK same hash chunk m l ds → PathOK same hash chunk m' l ds
   path_swung l [] z = tt
@@ -192,67 +176,49 @@ module _ {K : Type 0} (same : K → K → Bool) (hash : K → ℕ) (chunk : ℕ 
           ne (inr (b.0, d, y.1 ∙ ap (λ u. some (d, u)) z))
 
   pair_free_swung : (r : ℕ) → (mp ≡ some r → ⊥) → PairFree same hash chunk m r → PairFree same hash chunk m' r
-  pair_free_swung r ne f h i d w x = go (ℕ_discrete d c) (back h i d w)
-    where
-      by : HasPair (main m e) r ⊎ ((mp ≡ some r) ⊎ ((d : ℕ) × (td ≡ some d) × HasPair (main m (word m d)) r)) → ⊥
-      by (inl y) = f (hash k) (length cs) c reached (rw holds y)
-      by (inr (inl y)) = ne y
-      by (inr (inr y)) = f (hash k) (suc (length cs)) y.0 (reached_d y.0 y.1) y.2
-
-      by_new : HasPair (main m e) r ⊎ (mp ≡ some r) → ⊥
-      by_new (inl y) = f (hash k) (length cs) c reached (rw holds y)
-      by_new (inr y) = ne y
-
-      go : Dec (d ≡ c) → (walk chunk (view m) h i ≡ some d) ⊎ ((t : ℕ) × (nth (cells new) t ≡ some d) × (i ≤ 7)) → ⊥
-      go (yes p) b = by (pend.names r (rw (p, word_here) at x))
-      go (no p) (inl b) = f h i d b (rw (word_there d p) at x)
-      go (no p) (inr b) =
-          let y = nth_cells new b.0 d b.1 in
-          by_new (pend.names_new b.0 d y.0 r y.1 (rw (word_there d p, pend.holds b.0 d y.0 y.1) at x))
+  pair_free_swung r ne f h i d w x =
+      let but_r = named same hash chunk m R k c cs e n mp td new pend holds (λ p. p ≡ r → ⊥) (λ g j a p v y u. f g j a v (rw u at y)) (λ p y u. ne (rw u at y)) in
+      elim (ℕ_discrete d c) [
+        | yes p ↦ but_r.1 r (rw (p, word_here) at x) refl
+        | no p ↦ elim (back h i d w) [
+          | inl b ↦ f h i d b (rw (word_there d p) at x)
+          | inr b ↦ let y = nth_cells new b.0 d b.1 in but_r.2 b.0 d y.0 r y.1 (rw (word_there d p, pend.holds b.0 d y.0 y.1) at x) refl
+        ]
+      ]
 
   -- Another pending swap keeps what it rests on. If both expect to swap the same cell, the other is no more ready.
   pend_swung : (S : K → Option (K × ℕ) → Option (K × ℕ) → Type 0) (l : K) (c₂ : ℕ) (cs₂ : List ℕ) (e₂ n₂ : ℕ) (mp₂ td₂ : Option ℕ) (new₂ : List (ℕ × ℕ))
       → n ≢ e₂ → (Brought n₂ → ⊥) → ((t d x : ℕ) → nth new₂ t ≡ some (d, x) → Brought x → ⊥) → ((t d x : ℕ) → nth new₂ t ≡ some (d, x) → BroughtCell d → ⊥)
       → ((p : ℕ) → mp₂ ≡ some p → mp ≡ some p → ⊥)
       → Pend same hash chunk S m l c₂ cs₂ e₂ n₂ mp₂ td₂ new₂ → Pend same hash chunk S m' l c₂ cs₂ e₂ n₂ mp₂ td₂ new₂
-  pend_swung S l c₂ cs₂ e₂ n₂ mp₂ td₂ new₂ ne nn nm nc np z = record {
-    holds = λ t d x y. word_there d (new_there t d x y) ∙ z.holds t d x y;
-    inside = λ t d x y. rw length-set (z.inside t d x y);
-    cells_free = λ t d x y h i w. cell_free t d x y h i (back h i d w);
-    mains_free = λ t d x y. main_free_swung x (nm t d x y) (z.mains_free t d x y);
-    once = z.once;
-    names_new = z.names_new;
-    path = path_swung l (c₂ ∷ cs₂) z.path;
-    solid = z.solid;
-    n_free = main_free_swung n₂ nn z.n_free;
-    p_free = λ p x. pair_free_swung p (np p x) (z.p_free p x);
-    tomb_at_lem = λ d x. flat d (else d x) (z.tomb_at_lem d x);
-    links = z.links;
-    names = λ p x. carry p (z.names p x);
-    ready = λ w. rw (ft td₂ (λ d x. x)) (z.ready (was w (ℕ_discrete c₂ c)));
-  }
+  pend_swung S l c₂ cs₂ e₂ n₂ mp₂ td₂ new₂ ne nn nm nc np z =
+      let new_there : (t d x : ℕ) → nth new₂ t ≡ some (d, x) → d ≢ c = λ t d x y p. z.cells_free t d x y (hash k) (length cs) (rw p reached) in
+      record {
+        holds = λ t d x y. word_there d (new_there t d x y) ∙ z.holds t d x y;
+        inside = λ t d x y. rw length-set (z.inside t d x y);
+        cells_free = λ t d x y h i w. elim (back h i d w) [
+          | inl v ↦ z.cells_free t d x y h i v
+          | inr v ↦ let u = nth_cells new v.0 d v.1 in nc t d x y (v.0, u.0, u.1)
+        ];
+        mains_free = λ t d x y. main_free_swung x (nm t d x y) (z.mains_free t d x y);
+        once = z.once;
+        names_new = z.names_new;
+        path = path_swung l (c₂ ∷ cs₂) z.path;
+        solid = z.solid;
+        n_free = main_free_swung n₂ nn z.n_free;
+        p_free = λ p x. pair_free_swung p (np p x) (z.p_free p x);
+        tomb_at_lem = λ d x. flat d (else d x) (z.tomb_at_lem d x);
+        links = z.links;
+        names = λ p x. elim (z.names p x) [
+          | inl y ↦ inl y
+          | inr (inl y) ↦ inr (inl y)
+          | inr (inr y) ↦ inr (inr (y.0, y.1, rw (word_there y.0 (else y.0 y.1)) y.2))
+        ];
+        ready = λ w. rw (ft td₂ (λ d x. x)) (z.ready (word_was c₂ e₂ ne w));
+      }
     where
-      new_there : (t d x : ℕ) → nth new₂ t ≡ some (d, x) → d ≢ c
-      new_there t d x y p = z.cells_free t d x y (hash k) (length cs) (rw p reached)
-
-      cell_free : (t d x : ℕ) → nth new₂ t ≡ some (d, x) → (h i : ℕ) → (walk chunk (view m) h i ≡ some d) ⊎ ((u : ℕ) × (nth (cells new) u ≡ some d) × (i ≤ 7)) → ⊥
-      cell_free t d x y h i (inl w) = z.cells_free t d x y h i w
-      cell_free t d x y h i (inr w) = let v = nth_cells new w.0 d w.1 in nc t d x y (w.0, v.0, v.1)
-
       else : (d : ℕ) → td₂ ≡ some d → d ≢ c
       else d x = tomb_else d (z.tomb_at_lem d x)
-
-      Named : Mem K → ℕ → Type 0
-      Named w p = HasPair (main w e₂) p ⊎ ((mp₂ ≡ some p) ⊎ ((d : ℕ) × (td₂ ≡ some d) × HasPair (main w (word w d)) p))
-
-      carry : (p : ℕ) → Named m p → Named m' p
-      carry p (inl x) = inl x
-      carry p (inr (inl x)) = inr (inl x)
-      carry p (inr (inr x)) = inr (inr (x.0, x.1, rw (word_there x.0 (else x.0 x.1)) x.2))
-
-      was : word m' c₂ ≡ e₂ → Dec (c₂ ≡ c) → word m c₂ ≡ e₂
-      was w (yes p) = absurd (ne (sym word_here ∙ (rw p at w)))
-      was w (no p) = sym (word_there c₂ p) ∙ w
 
       ft : (o : Option ℕ) → ((d : ℕ) → o ≡ some d → td₂ ≡ some d) → tspot same hash chunk m' o ≡ tspot same hash chunk m o
       ft none f = refl

@@ -1,31 +1,19 @@
 -- A cell of a path that is reached is reached along the path, and stays so.
-use mathlib.Core.Path.{◌≡◌, refl, sym, ap, ◌∙◌}
+use mathlib.Core.Path.{◌≡◌, sym, ◌∙◌}
 use mathlib.Core.Bool.{Bool}
 use mathlib.Core.List.{List, [], ◌∷◌}
 use mathlib.Core.Option.{Option, some}
-use mathlib.Core.Logic.{◌⊎◌, inl, inr}
-use Prim.Native.Nat.{ℕ, suc, ◌≤◌}
+use mathlib.Core.Logic.{inl, inr}
+use Prim.Native.Nat.{ℕ, suc}
 use native.Mathlib.Omega.{arith}
-use lib.ListN.{length, get_or}
-use Rattle.machine.specs.Tree.{Spot, on, Agree, walk, Prefixed, In, here, later, nth}
-use Rattle.machine.specs.Machine.{Branch, nothing, pair, cell, Main, node, tomb, many, HasCell, Mem, spot, face, word, main, view, key, Seat, idle, read, swap, parent, clean, path, swung}
+use lib.ListN.{length}
+use Rattle.machine.specs.Tree.{on, Agree, walk, Prefixed, In, here, later, nth}
+use Rattle.machine.specs.Machine.{HasCell, Mem, word, main, view, key, Seat, idle, read, swap, parent, clean, path, swung}
 use Rattle.machine.proofs.Walk.{some_is, walk_back, walk_agree}
-use Rattle.machine.proofs.Graft.{clash}
-use Rattle.machine.proofs.Inv.{cells, Pend, Shape}
-use Rattle.machine.proofs.Keep.{lone_on}
+use Rattle.machine.proofs.Inv.{Pend, Shape}
+use Rattle.machine.proofs.Keep.{face_cell}
 use Rattle.machine.proofs.Swing.{nth_cells, solid_c, reached, view_new, reached_d, free, back, onward}
 use Rattle.machine.proofs.Turns.{tomb_pairs}
-
--- A cell that is shown is named.
-pub face_cell : {K : Type 0} (xs : List (K × ℕ)) (X : Main) (q d : ℕ) → face xs X q ≡ on d → HasCell X q d
-face_cell xs (node bs) q d e = go (get_or bs q nothing) refl e
-  where
-    go : (b : Branch) → get_or bs q nothing ≡ b → spot xs b ≡ on d → get_or bs q nothing ≡ cell d
-    go nothing x e = absurd (clash e)
-    go (pair p) x e = absurd (lone_on (nth xs p) d e)
-    go (cell c) x e = let z : c ≡ d = cc in x ∙ ap cell z
-face_cell xs (tomb p) q d e = absurd (lone_on (nth xs p) d e)
-face_cell xs (many ps) q d e = absurd (clash e)
 
 module _ {K : Type 0} (same : K → K → Bool) (hash : K → ℕ) (chunk : ℕ → ℕ → ℕ) where
   -- All of the path is reached along the key's hash.
@@ -58,10 +46,7 @@ module _ {K : Type 0} (same : K → K → Bool) (hash : K → ℕ) (chunk : ℕ 
 
     pub trailok_same : (y : Seat K) → TrailOK m y → TrailOK n y
     trailok_same idle z = tt
-    trailok_same (read o cs) z = trail_same (key o) cs z
-    trailok_same (swap o c cs e x mp new) z = trail_same (key o) (c ∷ cs) z
-    trailok_same (parent o b d cs) z = trail_same (key o) (d ∷ cs) z
-    trailok_same (clean o b d c cs e x) z = trail_same (key o) (d ∷ c ∷ cs) z
+    trailok_same y z = trail_same _ (path y) z
 
   -- A path that has a reached cell d has the cell c that names d too.
   module _ (m : Mem K) (one : Prefixed chunk (view m)) (k : K) (a c d : ℕ)
@@ -83,10 +68,7 @@ module _ {K : Type 0} (same : K → K → Bool) (hash : K → ℕ) (chunk : ℕ 
 
     pub seat_parent : (y : Seat K) → TrailOK m y → In d (path y) → In c (path y)
     seat_parent idle z j = elim j [ ]
-    seat_parent (read o cs) z j = trail_parent (key o) cs z j
-    seat_parent (swap o f cs e n mp new) z j = trail_parent (key o) (f ∷ cs) z j
-    seat_parent (parent o b f cs) z j = trail_parent (key o) (f ∷ cs) z j
-    seat_parent (clean o b f g cs e n) z j = trail_parent (key o) (f ∷ g ∷ cs) z j
+    seat_parent y z j = trail_parent _ (path y) z j
 
   -- A swap says yes.
   module _ (m : Mem K) (shape : Shape same hash chunk m)
@@ -95,67 +77,51 @@ module _ {K : Type 0} (same : K → K → Bool) (hash : K → ℕ) (chunk : ℕ 
       (unlinked : (d f : ℕ) → td ≡ some d → HasCell (main m n) (chunk (hash k) (length cs)) f → ⊥) where
     -- The cell that a swap cuts off is not reached after it.
     pub gone : (d h i : ℕ) → td ≡ some d → walk chunk (view (swung m c n)) h i ≡ some d → ⊥
-    gone d h i x w = was (back same hash chunk m shape R k c cs e n mp td new pend holds h i d w)
-      where
-        v : walk chunk (view m) (hash k) (suc (length cs)) ≡ some d
-        v = reached_d same hash chunk m shape R k c cs e n mp td new pend holds d x
-
-        solid : td ≡ some c → ⊥
-        solid y = solid_c same hash chunk m shape R k c cs e n mp td new pend holds (pend.tomb_at_lem c y)
-
-        at : (walk chunk (view (swung m c n)) h (length cs) ≡ some c) ⊎ (td ≡ some c) → Agree chunk h (hash k) (suc (length cs))
-            → walk chunk (view (swung m c n)) h (suc (length cs)) ≡ some d → ⊥
-        at (inr y) g u = solid y
-        at (inl y) g u =
-            let b = walk_back chunk (view (swung m c n)) h (length cs) d u in
-            let p : b.0 ≡ c = some_is (sym b.1 ∙ y) in
-            let z : view (swung m c n) c (chunk (hash k) (length cs)) ≡ on d = rw (p, g (length cs) (omega arith)) at b.2 in
-            let z' : face m.pairs (main m n) (chunk (hash k) (length cs)) ≡ on d =
-            ap (λ (s : ℕ → Spot K). s (chunk (hash k) (length cs))) (sym (view_new same hash chunk m shape R k c cs e n mp td new pend holds)) ∙ z in
-            unlinked d d x (face_cell m.pairs (main m n) (chunk (hash k) (length cs)) d z')
-
-        was : (walk chunk (view m) h i ≡ some d) ⊎ ((t : ℕ) × (nth (cells new) t ≡ some d) × (i ≤ 7)) → ⊥
-        was (inr y) = free same hash chunk m shape R k c cs e n mp td new pend holds y.0 d (suc (length cs)) (hash k) y.1 v
-        was (inl y) =
-            let p : i ≡ suc (length cs) = shape.one.index h (hash k) i (suc (length cs)) d y v in
-            let g : Agree chunk h (hash k) (suc (length cs)) = rw p at (shape.one.chunks h (hash k) i (suc (length cs)) d y v) in
-            at (onward same hash chunk m shape R k c cs e n mp td new pend holds h (length cs) c
-            (walk_agree chunk (view m) h (hash k) (length cs) (λ j l. g j (omega arith)) ∙ reached same hash chunk m shape R k c cs e n mp td new pend holds))
-            g (rw p at w)
+    gone d h i x w =
+        let v : walk chunk (view m) (hash k) (suc (length cs)) ≡ some d = reached_d same hash chunk m shape R k c cs e n mp td new pend holds d x in
+        elim (back same hash chunk m shape R k c cs e n mp td new pend holds h i d w) [
+          | inr y ↦ free same hash chunk m shape R k c cs e n mp td new pend holds y.0 d (suc (length cs)) (hash k) y.1 v
+          | inl y ↦
+              let p : i ≡ suc (length cs) = shape.one.index h (hash k) i (suc (length cs)) d y v in
+              let g : Agree chunk h (hash k) (suc (length cs)) = rw p at (shape.one.chunks h (hash k) i (suc (length cs)) d y v) in
+              let r : walk chunk (view m) h (length cs) ≡ some c =
+              walk_agree chunk (view m) h (hash k) (length cs) (λ j l. g j (omega arith)) ∙ reached same hash chunk m shape R k c cs e n mp td new pend holds in
+              elim (onward same hash chunk m shape R k c cs e n mp td new pend holds h (length cs) c r) [
+                | inl u ↦
+                    let b = walk_back chunk (view (swung m c n)) h (length cs) d (rw p at w) in
+                    let q : b.0 ≡ c = some_is (sym b.1 ∙ u) in
+                    let z : view (swung m c n) c (chunk (hash k) (length cs)) ≡ on d = rw (q, g (length cs) (omega arith)) at b.2 in
+                    unlinked d d x (face_cell m.pairs (main m n) (chunk (hash k) (length cs)) d
+                    (rw (view_new same hash chunk m shape R k c cs e n mp td new pend holds) at z))
+                | inr u ↦ solid_c same hash chunk m shape R k c cs e n mp td new pend holds (pend.tomb_at_lem c u)
+              ]
+        ]
 
     -- Any other cell that was reached still is.
     keep : (l : K) (d i : ℕ) → walk chunk (view m) (hash l) i ≡ some d → (td ≡ some d → ⊥) → walk chunk (view (swung m c n)) (hash l) i ≡ some d
-    keep l d i w f = go (onward same hash chunk m shape R k c cs e n mp td new pend holds (hash l) i d w)
-      where
-        go : (walk chunk (view (swung m c n)) (hash l) i ≡ some d) ⊎ (td ≡ some d) → walk chunk (view (swung m c n)) (hash l) i ≡ some d
-        go (inl v) = v
-        go (inr x) = absurd (f x)
+    keep l d i w f = elim (onward same hash chunk m shape R k c cs e n mp td new pend holds (hash l) i d w) [ inl v ↦ v | inr x ↦ absurd (f x) ]
 
     -- What was wholly reached still is, up to a cell that is not cut off.
     whole_on : (l : K) (d : ℕ) (ds : List ℕ) → Whole m l (d ∷ ds) → (td ≡ some d → ⊥) → Whole (swung m c n) l (d ∷ ds)
     whole_on l d [] z f = (keep l d 0 z.0 f, tt)
-    whole_on l d (g ∷ ds) z f = (keep l d (suc (length ds)) z.0 f, whole_on l g ds z.1 named)
-      where
-        named : td ≡ some g → ⊥
-        named x =
-            let b = walk_back chunk (view m) (hash l) (length ds) d z.0 in
-            let p : b.0 ≡ g = some_is (sym b.1 ∙ z.1.0) in
-            tomb_pairs same hash chunk m g (chunk (hash l) (length ds)) d (pend.tomb_at_lem g x) (rw p at b.2)
+    whole_on l d (g ∷ ds) z f =
+        let b = walk_back chunk (view m) (hash l) (length ds) d z.0 in
+        let p : b.0 ≡ g = some_is (sym b.1 ∙ z.1.0) in (
+          keep l d (suc (length ds)) z.0 f,
+          whole_on l g ds z.1 (λ x. tomb_pairs same hash chunk m g (chunk (hash l) (length ds)) d (pend.tomb_at_lem g x) (rw p at b.2)),
+        )
 
     -- Paths keep their trail.
     pub trail_swung : (l : K) (ds : List ℕ) → ((d : ℕ) → In d ds → (t x : ℕ) × (nth new t ≡ some (d, x)) → ⊥) → Trail m l ds → Trail (swung m c n) l ds
     trail_swung l [] f z = tt
-    trail_swung l (d ∷ ds) f z =
-        (λ h i w. go h i w (back same hash chunk m shape R k c cs e n mp td new pend holds h i d w), trail_swung l ds (λ g j. f g (later j)) z.1)
-      where
-        go : (h i : ℕ) → walk chunk (view (swung m c n)) h i ≡ some d
-            → (walk chunk (view m) h i ≡ some d) ⊎ ((t : ℕ) × (nth (cells new) t ≡ some d) × (i ≤ 7)) → Whole (swung m c n) l (d ∷ ds)
-        go h i w (inl v) = whole_on l d ds (z.0 h i v) (λ x. gone d h i x w)
-        go h i w (inr y) = let u = nth_cells new y.0 d y.1 in absurd (f d here (y.0, u.0, u.1))
+    trail_swung l (d ∷ ds) f z = (
+      λ h i w. elim (back same hash chunk m shape R k c cs e n mp td new pend holds h i d w) [
+        | inl v ↦ whole_on l d ds (z.0 h i v) (λ x. gone d h i x w)
+        | inr y ↦ let u = nth_cells new y.0 d y.1 in absurd (f d here (y.0, u.0, u.1))
+      ],
+      trail_swung l ds (λ g j. f g (later j)) z.1,
+    )
 
     pub trailok_swung : (y : Seat K) → ((d : ℕ) → In d (path y) → (t x : ℕ) × (nth new t ≡ some (d, x)) → ⊥) → TrailOK m y → TrailOK (swung m c n) y
     trailok_swung idle f z = tt
-    trailok_swung (read o ds) f z = trail_swung (key o) ds f z
-    trailok_swung (swap o d ds e₂ n₂ mp₂ new₂) f z = trail_swung (key o) (d ∷ ds) f z
-    trailok_swung (parent o b d ds) f z = trail_swung (key o) (d ∷ ds) f z
-    trailok_swung (clean o b d g ds e₂ n₂) f z = trail_swung (key o) (d ∷ g ∷ ds) f z
+    trailok_swung y f z = trail_swung _ (path y) f z

@@ -1,14 +1,14 @@
 -- Walks and lookups: what they rest on, and that a swap of one cell leaves all others as they were.
-use mathlib.Core.Path.{◌≡◌, refl, ap, ◌∙◌}
+use mathlib.Core.Path.{◌≡◌, refl, ◌∙◌}
 use mathlib.Core.Bool.{Bool}
 use mathlib.Core.List.{List}
-use mathlib.Core.Option.{Option, none, some}
+use mathlib.Core.Option.{none, some}
 use mathlib.Core.Logic.{◌≢◌}
 use Prim.Native.Nat.{ℕ, zero, suc, ◌+◌, ◌-◌, ◌<◌, ◌≤◌}
 use native.Mathlib.Omega.{arith}
 use native.Mathlib.Decide.{ℕ_discrete}
-use Rattle.machine.specs.Tree.{Spot, stands, on, Tree, kid, into, Agree, walk, Prefixed}
-use Rattle.machine.specs.Pairs.{find_pair, answer_pair, seek_pair, lookup_pair}
+use Rattle.machine.specs.Tree.{stands, on, Tree, Agree, walk, Prefixed}
+use Rattle.machine.specs.Pairs.{find_pair, seek_pair, lookup_pair}
 
 pub no_some : {A : Type 0} {x : A} → none ≡ some x → ⊥
 no_some e = let w : ◌≡◌ {A = ℕ} 0 1 = cc in omega arith
@@ -18,11 +18,7 @@ some_is e = cc
 
 -- Hashes that agree before an index and at it agree before the next.
 pub agree_suc : (chunk : ℕ → ℕ → ℕ) (h g i : ℕ) → Agree chunk h g i → chunk h i ≡ chunk g i → Agree chunk h g (suc i)
-agree_suc chunk h g i ag e j l = go (ℕ_discrete j i)
-  where
-    go : Dec (j ≡ i) → chunk h j ≡ chunk g j
-    go (yes p) = rw p e
-    go (no p) = ag j (omega arith)
+agree_suc chunk h g i ag e j l = elim (ℕ_discrete j i) [ yes p ↦ rw p e | no p ↦ ag j (omega arith) ]
 
 -- The cell at index n is the same where the cells before it show the same along the hash.
 pub walk_frame : {K : Type 0} (chunk : ℕ → ℕ → ℕ) (M N : Tree K) (h n : ℕ)
@@ -30,13 +26,7 @@ pub walk_frame : {K : Type 0} (chunk : ℕ → ℕ → ℕ) (M N : Tree K) (h n 
     → walk chunk N h n ≡ walk chunk M h n
 unfolding walk
 walk_frame chunk M N h zero f = refl
-walk_frame chunk M N h (suc n) f =
-    rw (walk_frame chunk M N h n (λ j c l e. f j c (omega arith) e))
-    (go (walk chunk M h n) (λ c e. f n c (omega arith) e))
-  where
-    go : (o : Option ℕ) → ((c : ℕ) → o ≡ some c → N c (chunk h n) ≡ M c (chunk h n)) → into N o (chunk h n) ≡ into M o (chunk h n)
-    go none g = refl
-    go (some c) g = ap kid (g c refl)
+walk_frame chunk M N h (suc n) f = rw (walk_frame chunk M N h n (λ j c l e. f j c (omega arith) e)) (let g = f n in grind arith)
 
 -- One more step of a walk.
 pub walk_on : {K : Type 0} (chunk : ℕ → ℕ → ℕ) (M : Tree K) (h i c d : ℕ)
@@ -53,15 +43,7 @@ root_is chunk M h c w = cc
 pub walk_back : {K : Type 0} (chunk : ℕ → ℕ → ℕ) (M : Tree K) (h i d : ℕ)
     → walk chunk M h (suc i) ≡ some d → (c : ℕ) × (walk chunk M h i ≡ some c) × (M c (chunk h i) ≡ on d)
 unfolding walk
-walk_back {K} chunk M h i d e = go (walk chunk M h i) refl e
-  where
-    spot : (c : ℕ) (s : Spot K) → kid s ≡ some d → s ≡ on d
-    spot c (stands ps) e = absurd (no_some e)
-    spot c (on x) e = cc
-
-    go : (o : Option ℕ) → walk chunk M h i ≡ o → into M o (chunk h i) ≡ some d → (c : ℕ) × (walk chunk M h i ≡ some c) × (M c (chunk h i) ≡ on d)
-    go none w e = absurd (no_some e)
-    go (some c) w e = (c, w, spot c (M c (chunk h i)) e)
+walk_back chunk M h i d e = grind arith
 
 -- Hashes that agree walk alike.
 pub walk_agree : {K : Type 0} (chunk : ℕ → ℕ → ℕ) (M : Tree K) (h g n : ℕ) → Agree chunk h g n → walk chunk M h n ≡ walk chunk M g n
@@ -72,23 +54,12 @@ walk_agree chunk M h g (suc n) a = rw (walk_agree chunk M h g n (λ j l. a j (om
 -- Agreement is decided.
 pub agree? : (chunk : ℕ → ℕ → ℕ) (h g n : ℕ) → Dec (Agree chunk h g n)
 agree? chunk h g zero = yes (λ j l. absurd (omega arith))
-agree? chunk h g (suc n) = go (agree? chunk h g n) (ℕ_discrete (chunk h n) (chunk g n))
-  where
-    last : Agree chunk h g n → chunk h n ≡ chunk g n → (j : ℕ) → j < suc n → Dec (j ≡ n) → chunk h j ≡ chunk g j
-    last a e j l (yes p) = rw p e
-    last a e j l (no p) = a j (omega arith)
-
-    go : Dec (Agree chunk h g n) → Dec (chunk h n ≡ chunk g n) → Dec (Agree chunk h g (suc n))
-    go (yes a) (yes e) = yes (λ j l. last a e j l (ℕ_discrete j n))
-    go (yes a) (no e) = no (λ f. e (f n (omega arith)))
-    go (no a) e = no (λ f. a (λ j l. f j (omega arith)))
+agree? chunk h g (suc n) = elim (agree? chunk h g n) [
+  | yes a ↦ elim (ℕ_discrete (chunk h n) (chunk g n)) [ yes e ↦ yes (agree_suc chunk h g n a e) | no e ↦ no (λ f. e (f n (omega arith))) ]
+  | no a ↦ no (λ f. a (λ j l. f j (omega arith)))
+]
 
 module _ {K : Type 0} (same : K → K → Bool) (hash : K → ℕ) (chunk : ℕ → ℕ → ℕ) where
-  -- An answer rests only on what comes of the cell that is named.
-  answer_ext : (k : K) (s : Spot K) (f g : ℕ → Option (K × ℕ)) → ((d : ℕ) → s ≡ on d → f d ≡ g d) → answer_pair same k s f ≡ answer_pair same k s g
-  answer_ext k (stands ps) f g e = refl
-  answer_ext k (on c) f g e = e c refl
-
   -- The search from a cell is the same where the cells from it on show the same along the hash.
   pub seek_frame : (M N : Tree K) (k : K) (n i c : ℕ) → walk chunk M (hash k) i ≡ some c
       → ((j d : ℕ) → i ≤ j → walk chunk M (hash k) j ≡ some d → N d (chunk (hash k) j) ≡ M d (chunk (hash k) j))
@@ -97,8 +68,7 @@ module _ {K : Type 0} (same : K → K → Bool) (hash : K → ℕ) (chunk : ℕ 
   seek_frame M N k zero i c w f = rw (f i c (omega arith) w)
   seek_frame M N k (suc n) i c w f =
       rw (f i c (omega arith) w)
-      (answer_ext k (M c (chunk (hash k) i)) (λ d. seek_pair same hash chunk N k n (suc i) d) (λ d. seek_pair same hash chunk M k n (suc i) d)
-      (λ d e. seek_frame M N k n (suc i) d (walk_on chunk M (hash k) i c d w e) (λ j d l. f j d (omega arith))))
+      (let h = λ (d : ℕ) (e : M c (chunk (hash k) i) ≡ on d). seek_frame M N k n (suc i) d (walk_on chunk M (hash k) i c d w e) (λ j d l. f j d (omega arith)) in grind arith)
 
   -- A search goes on in the cell that is named.
   pub seek_on : (M : Tree K) (k : K) (n i c d : ℕ) → M c (chunk (hash k) i) ≡ on d
@@ -141,13 +111,9 @@ module _ {K : Type 0} (same : K → K → Bool) (hash : K → ℕ) (chunk : ℕ 
     other_index : (h : ℕ) (j d : ℕ) → j ≢ a → walk chunk M h j ≡ some d → d ≢ c
     other_index h j d ne w e = ne (one.index h h₀ j a c (rw e at w) reached)
 
-    -- Up to index a all walks are as before.
-    pub swap_walk_before : (h n : ℕ) → n ≤ a → walk chunk N h n ≡ walk chunk M h n
-    swap_walk_before h n l = walk_frame chunk M N h n (λ j d l' w. but d (other_index h j d (omega arith) w) (chunk h j))
-
     -- A hash that agrees still leads to c.
     pub swap_walk_here : (h : ℕ) → Agree chunk h h₀ a → walk chunk N h a ≡ some c
-    swap_walk_here h ag = swap_walk_before h a (omega arith) ∙ walk_agree chunk M h h₀ a ag ∙ reached
+    swap_walk_here h ag = walk_frame chunk M N h a (λ j d l w. but d (other_index h j d (omega arith) w) (chunk h j)) ∙ walk_agree chunk M h h₀ a ag ∙ reached
 
     -- The lookup of a key whose hash does not agree is as before.
     pub swap_lookup_apart : (k : K) → ¬ Agree chunk (hash k) h₀ a → lookup_pair same hash chunk N k ≡ lookup_pair same hash chunk M k
@@ -157,9 +123,7 @@ module _ {K : Type 0} (same : K → K → Bool) (hash : K → ℕ) (chunk : ℕ 
     -- So is that of a key at whose chunk c shows the same.
     pub swap_lookup_kept : (k : K) → N c (chunk (hash k) a) ≡ M c (chunk (hash k) a) → lookup_pair same hash chunk N k ≡ lookup_pair same hash chunk M k
     unfolding lookup_pair walk
-    swap_lookup_kept k kept = seek_frame M N k 7 0 0 refl (λ j d l w. go j d w (ℕ_discrete j a) (ℕ_discrete d c))
-      where
-        go : (j d : ℕ) → walk chunk M (hash k) j ≡ some d → Dec (j ≡ a) → Dec (d ≡ c) → N d (chunk (hash k) j) ≡ M d (chunk (hash k) j)
-        go j d w (yes p) (yes q) = rw (p, q) kept
-        go j d w (no p) x = but d (other_index (hash k) j d p w) (chunk (hash k) j)
-        go j d w (yes p) (no q) = but d q (chunk (hash k) j)
+    swap_lookup_kept k kept = seek_frame M N k 7 0 0 refl (λ j d l w. elim (ℕ_discrete d c) [
+      | yes q ↦ elim (ℕ_discrete j a) [ yes p ↦ rw (p, q) kept | no p ↦ but d (other_index (hash k) j d p w) (chunk (hash k) j) ]
+      | no q ↦ but d q (chunk (hash k) j)
+    ])

@@ -1,67 +1,45 @@
 -- The value of the pair that is found is the value that is found: what is proved of pairs holds of values.
+use native.Mathlib.Omega.{arith}
 use mathlib.Core.Path.{◌≡◌, refl, sym, ap, ◌∙◌}
-use mathlib.Core.Bool.{Bool, true, false, cond}
+use mathlib.Core.Bool.{Bool, cond}
 use mathlib.Core.List.{List, [], ◌∷◌}
-use mathlib.Core.Option.{Option, none, some}
+use mathlib.Core.Option.{Option, none}
 use Prim.Native.Nat.{ℕ, zero, suc}
-use Rattle.machine.specs.Tree.{Spot, stands, on, Tree, find, answer, seek, lookup}
-use Rattle.machine.specs.Machine.{State, Op, get, put, renew, cut, cutting, climb, value, Entry, view, after, replay, says, Plain}
+use Rattle.machine.specs.Tree.{Tree, find, seek, lookup}
+use Rattle.machine.specs.Machine.{State, Op, Entry, view, replay, says, Plain}
 use Rattle.machine.specs.Claim.{Stands}
-use Rattle.machine.specs.Pairs.{worth, find_pair, answer_pair, seek_pair, lookup_pair, after_pair, replay_pair, says_pair, PlainPair, StandsPair}
+use Rattle.machine.specs.Pairs.{worth, find_pair, seek_pair, lookup_pair, replay_pair, says_pair, PlainPair, StandsPair}
 
 worth_cond : {K : Type 0} (b : Bool) (x y : Option (K × ℕ)) → cond b (worth x) (worth y) ≡ worth (cond b x y)
-worth_cond true x y = refl
-worth_cond false x y = refl
-
-pub worth_none : {K : Type 0} (o : Option (K × ℕ)) → worth o ≡ none → o ≡ none
-worth_none none e = refl
-worth_none (some x) e = cc
+worth_cond b x y = grind arith
 
 pub find_worth : {K : Type 0} (same : K → K → Bool) (k : K) (ps : List (K × ℕ)) → find same k ps ≡ worth (find_pair same k ps)
 unfolding find find_pair
 find_worth same k [] = refl
-find_worth same k (p ∷ ps) = rw (find_worth same k ps) (worth_cond (same p.0 k) (some p) (find_pair same k ps))
+find_worth same k (p ∷ ps) = rw (find_worth same k ps) (grind arith)
 
 -- Where no value is found, no pair is.
 pub none_pair : {K : Type 0} (same : K → K → Bool) (k : K) (ps : List (K × ℕ)) → find same k ps ≡ none → find_pair same k ps ≡ none
-none_pair same k ps e = worth_none (find_pair same k ps) (sym (find_worth same k ps) ∙ e)
+none_pair same k ps e = let f = find_worth same k ps in grind arith
 
 module _ {K : Type 0} (same : K → K → Bool) (hash : K → ℕ) (chunk : ℕ → ℕ → ℕ) where
-  answer_worth : (k : K) (s : Spot K) (f : ℕ → Option ℕ) (g : ℕ → Option (K × ℕ)) → ((d : ℕ) → f d ≡ worth (g d)) → answer same k s f ≡ worth (answer_pair same k s g)
-  answer_worth k (stands ps) f g e = find_worth same k ps
-  answer_worth k (on c) f g e = e c
-
   seek_worth : (M : Tree K) (k : K) (n i c : ℕ) → seek same hash chunk M k n i c ≡ worth (seek_pair same hash chunk M k n i c)
   unfolding seek seek_pair
-  seek_worth M k zero i c = answer_worth k (M c (chunk (hash k) i)) (λ d. none) (λ d. none) (λ d. refl)
-  seek_worth M k (suc n) i c =
-      answer_worth k (M c (chunk (hash k) i)) (λ d. seek same hash chunk M k n (suc i) d) (λ d. seek_pair same hash chunk M k n (suc i) d) (λ d. seek_worth M k n (suc i) d)
+  seek_worth M k zero i c = grind (arith, find_worth)
+  seek_worth M k (suc n) i c = let h = seek_worth M k n (suc i) in grind (arith, find_worth)
 
   pub lookup_worth : (M : Tree K) (k : K) → lookup same hash chunk M k ≡ worth (lookup_pair same hash chunk M k)
   unfolding lookup lookup_pair
   lookup_worth M k = seek_worth M k 7 0 0
 
 module _ {K : Type 0} (same : K → K → Bool) where
-  after_worth : (o : Op K) (f : K → Option ℕ) (g : K → Option (K × ℕ)) (k : K) → ((l : K) → f l ≡ worth (g l)) → after same o f k ≡ worth (after_pair same o g k)
-  after_worth (get l) f g k e = e k
-  after_worth (put l v) f g k e = rw (e k) (worth_cond (same l k) (some (l, v)) (g k))
-  after_worth (renew l v) f g k e = e k
-  after_worth (cut l) f g k e = rw (e k) (worth_cond (same l k) none (g k))
-  after_worth (cutting l v) f g k e = e k
-  after_worth (climb l) f g k e = e k
-
   pub replay_worth : (es : List (Entry K)) (k : K) → replay same es k ≡ worth (replay_pair same es k)
   unfolding replay replay_pair
   replay_worth [] k = refl
-  replay_worth (e ∷ es) k = after_worth e.op (replay same es) (replay_pair same es) k (λ l. replay_worth es l)
+  replay_worth (e ∷ es) k = let h = replay_worth es in grind (arith, worth_cond)
 
   says_worth : (o : Op K) (f : K → Option ℕ) (g : K → Option (K × ℕ)) → ((l : K) → f l ≡ worth (g l)) → says_pair o g ≡ says o f
-  says_worth (get k) f g e = ap value (sym (e k))
-  says_worth (put k v) f g e = refl
-  says_worth (renew k v) f g e = refl
-  says_worth (cut k) f g e = ap value (sym (e k))
-  says_worth (cutting k v) f g e = refl
-  says_worth (climb k) f g e = refl
+  says_worth o f g e = grind arith
 
   pub plain_worth : (es : List (Entry K)) → PlainPair same es → Plain same es
   unfolding Plain PlainPair

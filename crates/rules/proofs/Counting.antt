@@ -1,12 +1,12 @@
 -- The computed counts are the numbers of reached places, each once.
-use Rattle.std.proofs.Common.{◌≡◌, ℕ, zero, suc, ◌<◌, Bool, true, false, cond, eqb, ltb, ◌⊎◌, List, [], ◌∷◌, length, Some, None, Option, sym, refl, ap, ◌∙◌, subst, inl, inr, ⊎_elim, arith}
+use Rattle.std.proofs.Common.{◌≡◌, ℕ, zero, suc, ◌<◌, Bool, true, false, cond, eqb, ltb, ◌⊎◌, List, [], ◌∷◌, length, Some, Option, sym, refl, ap, ◌∙◌, subst, inl, inr, ⊎_elim, arith}
 use mathlib.Core.List.{Memᴰ}
 use Rattle.std.specs.List.{slice_get}
 use Rattle.std.proofs.lemmas.Bool.{eqb-true, eq-eqb, ltb-true, lt-ltb, cases_eq, or_cases, or_left, or_right, false≢true}
 use Rattle.std.proofs.lemmas.Option.{none-some, same_Some, slice_get_within}
 use Rattle.mains.specs.declared.Main.{Main}
 use Rattle.mains.specs.declared.Main.TheVariants.{Node as node, Tomb as tomb, List as listing}
-use Rattle.rules.specs.Memory.{Memory, main_at, main_limit}
+use Rattle.rules.specs.Memory.{Memory}
 use Rattle.rules.specs.Reached.{Reached, ReachedCell, ReachedPair, ReachedTomb, HowMany, Once, cells_of, pairs_of, is_tomb, member, those, of_main, tomb_at, inside, named, tombs_in, level, gathered, cell_count, pair_count, tomb_count}
 use Rattle.rules.specs.Sanity.{Counted}
 use Rattle.rules.specs.Sound.{sound_in}
@@ -52,8 +52,7 @@ module _ (xs : List ℕ) where
   once_those (suc n) = by (member n xs) (once_those n)
     where
       by : (b : Bool) → Once (those n xs) → Once (cond b (n ∷ those n xs) (those n xs))
-      by true o = ((λ m. let l = (those_in n n m).0 in omega arith), o)
-      by false o = o
+      by b o = grind (arith, those_in)
 
   -- The numbers below n in a list, counted once each, are those of which P holds.
   how_many : (P : ℕ → Type 0) (n : ℕ) → ((x : ℕ) → Memᴰ x xs → x < n → P x) → ((x : ℕ) → P x → Memᴰ x xs × (x < n)) → HowMany P (length (those n xs))
@@ -101,8 +100,7 @@ module _ {K : Type 0} (same : K → K → Bool) (hash : K → ℕ) (m : Memory K
       by false j = j
 
   of_in : (f : Main → List ℕ) (x : ℕ) (o : Option Main) → Memᴰ x (of_main f o) → (y : Main) × (o ≡ Some y) × Memᴰ x (f y)
-  of_in f x None k = elim k [ ]
-  of_in f x (Some y) k = (y, refl, k)
+  of_in f x o k = grind arith
 
   named_in : (f : Main → List ℕ) (index x : ℕ) (cs : List ℕ) → Memᴰ x (named same hash m f index cs) → (c : ℕ) × (y : Main) × Memᴰ c cs × (sound_in same hash m index c ≡ Some y) × Memᴰ x (f y)
   named_in f index x [] k = elim k [ ]
@@ -136,10 +134,6 @@ module _ {K : Type 0} (same : K → K → Bool) (hash : K → ℕ) (m : Memory K
   reached_level index c (Reached.next {index = i} {c = a} k x e d named_there within) =
       in_inside d (named same hash m cells_of i (level same hash m i)) (in_named cells_of i d a x (level same hash m i) (reached_level i a k) e named_there) within
 
-  reached_inside : (index c : ℕ) → Reached same hash m index c → c < length m.words
-  reached_inside index c (Reached.root l) = l
-  reached_inside index c (Reached.next k x e d named_there within) = within
-
   -- No cell is reached past index 7.
   pub reached_low : (index c : ℕ) → Reached same hash m index c → index < 8
   reached_low index c (Reached.root l) = omega arith
@@ -154,7 +148,7 @@ module _ {K : Type 0} (same : K → K → Bool) (hash : K → ℕ) (m : Memory K
       (λ c k l. let found = gathered_in (level same hash m) 8 c k in record { index = found.0; at = level_reached found.0 c found.2 })
       (λ c r. (
         in_gathered (level same hash m) 8 r.index c (reached_low r.index c r.at) (reached_level r.index c r.at),
-        reached_inside r.index c r.at,
+        (grind arith),
       ))
 
   -- THE PAIRS
@@ -184,13 +178,7 @@ module _ {K : Type 0} (same : K → K → Bool) (hash : K → ℕ) (m : Memory K
   -- THE TOMBS
 
   tomb_at_lem : (n : ℕ) (w : Option ℕ) (o : Option Main) → Memᴰ n (tomb_at w o) → (y : Main) × (w ≡ Some n) × (o ≡ Some y) × (is_tomb y ≡ true)
-  tomb_at_lem n None o k = elim k [ ]
-  tomb_at_lem n (Some w) None k = elim k [ ]
-  tomb_at_lem n (Some w) (Some y) k = by (is_tomb y) refl k
-    where
-      by : (b : Bool) → is_tomb y ≡ b → Memᴰ n (cond b (w ∷ []) []) → (x : Main) × (Some w ≡ Some n) × (Some y ≡ Some x) × (is_tomb x ≡ true)
-      by true t k = (y, ap Some (sym (mathlib.Core.List.Memᴰ.eq_of_singleton k)), refl, t)
-      by false t k = elim k [ ]
+  tomb_at_lem n w o k = grind arith
 
   at_tomb_lem : (n : ℕ) (w : Option ℕ) (o : Option Main) (y : Main) → w ≡ Some n → o ≡ Some y → is_tomb y ≡ true → Memᴰ n (tomb_at w o)
   at_tomb_lem n w o y e f t = rw (e, f, t) (mathlib.Core.List.Memᴰ.head refl)
@@ -213,17 +201,6 @@ module _ {K : Type 0} (same : K → K → Bool) (hash : K → ℕ) (m : Memory K
   in_tombs index n c y (d ∷ cs) (mathlib.Core.List.Memᴰ.tail k) w e t =
       mathlib.Core.List.Memᴰ.append_right (tomb_at (slice_get m.words d) (sound_in same hash m index d)) (in_tombs index n c y cs k w e t)
 
-  -- A main place that a sound main stands in is one of the memory.
-  place_inside : (index c n : ℕ) (y : Main) → slice_get m.words c ≡ Some n → sound_in same hash m index c ≡ Some y → n < length m.mains
-  place_inside index c n y w e =
-      let found = then_some (slice_get m.words c) (main_at m.mains) y (sound_in_lem same hash m index c y e).0 in
-      let s = same_Some n found.0 (sym w ∙ found.1) in
-      by (ltb n main_limit) (subst (λ x. main_at m.mains x ≡ Some y) (sym s) found.2)
-    where
-      by : (b : Bool) → cond b (slice_get m.mains n) None ≡ Some y → n < length m.mains
-      by true e = slice_get_within m.mains n y e
-      by false e = absurd (none-some _ e)
-
   tombs : HowMany (ReachedTomb same hash m) (tomb_count same hash m)
   unfolding tomb_count
   tombs =
@@ -243,7 +220,7 @@ module _ {K : Type 0} (same : K → K → Bool) (hash : K → ℕ) (m : Memory K
       (λ n r. (
         in_gathered (λ index. tombs_in same hash m index (level same hash m index)) 8 r.index n (reached_low r.index r.cell r.at)
             (in_tombs r.index n r.cell r.main (level same hash m r.index) (reached_level r.index r.cell r.at) r.holds r.keeps r.dead),
-        place_inside r.index r.cell n r.main r.holds r.keeps,
+        (grind (arith, then_some, sound_in_lem, same_Some, slice_get_within, none-some)),
       ))
 
   pub counted : Counted same hash m

@@ -1,13 +1,11 @@
 -- What is reached is what following a hash leads to.
-use Rattle.std.proofs.Common.{◌≡◌, ℕ, zero, suc, ◌+◌, ◌*◌, ◌/◌, ◌%◌, ◌^◌, ◌<◌, Bool, true, false, cond, ltb, length, Some, None, Option, sym, refl, ap, ◌∙◌, subst, mod-eq_of_lt, add_comm, arith}
+use Rattle.std.proofs.Common.{◌≡◌, ℕ, zero, suc, ◌+◌, ◌*◌, ◌^◌, ◌<◌, Bool, cond, ltb, length, Some, None, Option, sym, refl, ap, ◌∙◌, subst, mod-eq_of_lt, add_comm, arith}
 use Rattle.keys.specs.Routes.{chunk_at, prefix_at, Together}
 use Rattle.keys.proofs.Chunks.{prefix_by_chunks, prefix_next, chunk_below}
-use Rattle.std.proofs.lemmas.Nat.{div-mul-add, mod-mul-add, mul-add-lt, pow-add}
-use Rattle.std.proofs.lemmas.Bool.{ltb-true, lt-ltb}
-use Rattle.std.proofs.lemmas.Option.{none-some, same_Some}
+use Rattle.std.proofs.lemmas.Nat.{mul-add-lt, pow-add}
+use Rattle.std.proofs.lemmas.Bool.{lt-ltb}
 use Rattle.mains.specs.Nodes.{branch_at}
-use Rattle.mains.specs.declared.Branch.{Branch}
-use Rattle.mains.specs.declared.Branch.TheVariants.{Pair as pair, Cell as cell}
+use Rattle.mains.specs.declared.Branch.TheVariants.{Cell as cell}
 use Rattle.mains.specs.declared.Main.{Main}
 use Rattle.mains.specs.declared.Main.TheVariants.{Node as node, Tomb as tomb, List as listing}
 use Rattle.mains.specs.declared.Node.{Node}
@@ -20,14 +18,10 @@ use Rattle.rules.proofs.Naming.{then_some, cell_at, at_cell}
 -- A prefix with one chunk more.
 module _ (prefix q index : ℕ) (small : prefix < 2 ^ (5 * index)) (low : q < 32) where
   pub chunk_there : chunk_at (prefix + q * 2 ^ (5 * index)) index ≡ q
-  chunk_there =
-      let w = 2 ^ (5 * index) in
-      ap (λ n. n / w % 32) (add_comm prefix (q * w)) ∙ (ap (λ n. n % 32) (div-mul-add q w prefix small) ∙ mod-eq_of_lt low)
+  chunk_there = grind arith
 
   pub prefix_there : prefix_at (prefix + q * 2 ^ (5 * index)) index ≡ prefix
-  prefix_there =
-      let w = 2 ^ (5 * index) in
-      ap (λ n. n % w) (add_comm prefix (q * w)) ∙ mod-mul-add q w prefix small
+  prefix_there = grind arith
 
   pub below_there : prefix + q * 2 ^ (5 * index) < 2 ^ (5 * suc index)
   below_there =
@@ -46,27 +40,11 @@ module _ {K : Type 0} (same : K → K → Bool) (hash : K → ℕ) (m : Memory K
       ap (λ o. then o (λ c. cell_below same hash m (sound_in same hash m index c) (chunk_at h index))) (walk_together h g index (λ i l k. t i l (omega arith)))
       ∙ ap (λ q. then (walk same hash m g index) (λ c. cell_below same hash m (sound_in same hash m index c) q)) (t index (omega arith) (omega arith))
 
-  cell_inside : (o : Option Branch) (d : ℕ) → cell_by same hash m o ≡ Some d → (o ≡ Some (cell d)) × (d < length m.words)
-  cell_inside None d e = absurd (none-some _ e)
-  cell_inside (Some (pair p)) d e = absurd (none-some _ e)
-  cell_inside (Some (cell c)) d e = by (ltb c (length m.words)) refl e
-    where
-      by : (t : Bool) → ltb c (length m.words) ≡ t → cond t (Some c) None ≡ Some d → (Some (cell c) ≡ Some (cell d)) × (d < length m.words)
-      by true l e = let s = same_Some c d e in (ap (λ x. Some (cell x)) s, subst (λ x. x < length m.words) s (ltb-true c (length m.words) l))
-      by false l e = absurd (none-some _ e)
-
   node_above : (o : Option Main) (q d : ℕ) → cell_below same hash m o q ≡ Some d → (n : Node) × (o ≡ Some (node n)) × (branch_at n q ≡ Some (cell d)) × (d < length m.words)
-  node_above None q d e = absurd (none-some _ e)
-  node_above (Some (node n)) q d e = let k = cell_inside (branch_at n q) d e in (n, refl, k.0, k.1)
-  node_above (Some (tomb p)) q d e = absurd (none-some _ e)
-  node_above (Some (listing l)) q d e = absurd (none-some _ e)
+  node_above o q d e = grind arith
 
   root_inside : (c : ℕ) → cond (ltb 0 (length m.words)) (Some 0) None ≡ Some c → (0 < length m.words) × (0 ≡ c)
-  root_inside c e = by (ltb 0 (length m.words)) refl e
-    where
-      by : (t : Bool) → ltb 0 (length m.words) ≡ t → cond t (Some 0) None ≡ Some c → (0 < length m.words) × (0 ≡ c)
-      by true l e = (ltb-true 0 (length m.words) l, same_Some 0 c e)
-      by false l e = absurd (none-some _ e)
+  root_inside c e = grind arith
 
   leads : (index prefix c : ℕ) → StandsFor same hash m index prefix c → (prefix < 2 ^ (5 * index)) × (walk same hash m prefix index ≡ Some c)
   unfolding walk

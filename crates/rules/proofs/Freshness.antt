@@ -1,9 +1,8 @@
 -- A formatted memory reaches its root, a node without branches, and nothing else.
-use Rattle.std.proofs.Common.{◌≡◌, ℕ, ◌<◌, Bool, true, false, cond, leb, List, [], ◌∷◌, length, set, Some, None, sym, refl, ap, ◌∙◌, subst, arith, length-set}
+use Rattle.std.proofs.Common.{◌≡◌, ℕ, ◌<◌, Bool, true, leb, List, [], ◌∷◌, length, set, Some, None, sym, refl, ap, ◌∙◌, subst, arith, length-set}
 use mathlib.Core.List.{Memᴰ}
 use Rattle.std.proofs.lemmas.Bool.{and_parts, leb-true}
 use Rattle.std.proofs.lemmas.Option.{same_Some}
-use Rattle.panel.specs.declared.Refusal.TheVariants.{FigureOutOfLimits, TooLittleMemory}
 use Rattle.mains.specs.Nodes.{empty_node}
 use Rattle.mains.specs.declared.Main.{Main}
 use Rattle.mains.specs.declared.Main.TheVariants.{Node as node}
@@ -17,18 +16,12 @@ use Rattle.rules.specs.declared.Pair.{Pair}
 
 -- Figures that are accepted lie within the limits, and the memory suffices.
 pub accepted : {K : Type 0} (f : Figures) (m : Memory K) → format_refusal f m ≡ None → (in_limits f ≡ true) × (suffices f m ≡ true)
-accepted f m e = by (in_limits f) (suffices f m) refl refl e
-  where
-    by : (a b : Bool) → in_limits f ≡ a → suffices f m ≡ b → cond a (cond b None (Some TooLittleMemory)) (Some FigureOutOfLimits) ≡ None → (in_limits f ≡ true) × (suffices f m ≡ true)
-    by true true p q e = (p, q)
-    by true false p q e = let z : ◌≡◌ {A = ℕ} 0 1 = cc in absurd (omega arith)
-    by false b p q e = let z : ◌≡◌ {A = ℕ} 0 1 = cc in absurd (omega arith)
+accepted f m e = grind arith
 
 module _ {K : Type 0} (same : K → K → Bool) (hash : K → ℕ) where
   root_holds : (words : List ℕ) (mains : List Main) (pairs : List (Pair K)) (keys : List K) → 0 < length words → 0 < length mains → sound_in same hash (record { words = set words 0 0; mains = set mains 0 (node empty_node); pairs = pairs; keys = keys }) 0 0 ≡ Some (node empty_node)
-  root_holds [] mains pairs keys l k = absurd (omega arith)
-  root_holds (w ∷ words) [] pairs keys l k = absurd (omega arith)
   root_holds (w ∷ words) (x ∷ mains) pairs keys l k = refl
+  root_holds _ _ pairs keys l k = absurd (omega arith)
 
   no_cells : cells_of (node empty_node) ≡ []
   unfolding branches_of
@@ -39,8 +32,7 @@ module _ {K : Type 0} (same : K → K → Bool) (hash : K → ℕ) where
   no_pairs = refl
 
   not_in : {x : ℕ} (xs : List ℕ) → xs ≡ [] → Memᴰ x xs → ⊥
-  not_in [] e m = elim m [ ]
-  not_in (y ∷ xs) e m = let z : ◌≡◌ {A = ℕ} 0 1 = cc in omega arith
+  not_in xs e m = grind arith
 
   module _ (m : Memory K) (inside : 0 < length m.words) (empty : sound_in same hash m 0 0 ≡ Some (node empty_node)) where
     -- Nothing is below the root.
@@ -53,9 +45,7 @@ module _ {K : Type 0} (same : K → K → Bool) (hash : K → ℕ) where
         absurd (not_in (cells_of (node empty_node)) no_cells (subst (λ y. Memᴰ d (cells_of y)) is named))
 
     at_root : (index c : ℕ) (x : Main) → Reached same hash m index c → sound_in same hash m index c ≡ Some x → x ≡ node empty_node
-    at_root index c x k e =
-        let here = cells index c k in
-        same_Some x (node empty_node) (sym e ∙ (ap (λ j. sound_in same hash m j c) here.0 ∙ (ap (sound_in same hash m 0) here.1 ∙ empty)))
+    at_root index c x k e = grind (arith, cells, same_Some)
 
     fresh : Fresh same hash m
     fresh =

@@ -1,5 +1,5 @@
 -- The laws of the plain map.
-use Rattle.std.proofs.Common.{◌≡◌, ℕ, Bool, true, false, cond, List, [], ◌∷◌, Some, None, refl, ap, ◌∙◌}
+use Rattle.std.proofs.Common.{◌≡◌, ℕ, Bool, true, false, cond, List, [], ◌∷◌, Some, None, refl, ap, ◌∙◌, arith}
 use mathlib.Core.List.{Memᴰ}
 use Rattle.std.proofs.lemmas.Bool.{both_ways}
 use Rattle.keys.specs.Laws.{KeyLaws}
@@ -9,22 +9,13 @@ use Rattle.rules.specs.declared.Ask.TheVariants.{Get, Put, Cut}
 use Rattle.rules.specs.declared.Pair.{Pair}
 
 module _ {K : Type 0} (same : K → K → Bool) (hash : K → ℕ) (laws : KeyLaws same hash) where
-  -- Equal keys are equal to the same others.
-  unequal : (a b c : K) → same a b ≡ true → same b c ≡ false → same a c ≡ false
-  unequal a b c e d = by (same a c) refl
-    where
-      by : (t : Bool) → same a c ≡ t → same a c ≡ false
-      by false f = f
-      by true f = absurd (both_ways (same b c) d (laws.transitive b a c (laws.symmetric a b e) f))
-
   find_without : (key : K) (ys : List (Pair K)) → find same key (without same key ys) ≡ None
   unfolding find without
   find_without key [] = refl
   find_without key (y ∷ ys) = by (same y.key key) refl (find_without key ys)
     where
       by : (t : Bool) → same y.key key ≡ t → find same key (without same key ys) ≡ None → find same key (cond t (without same key ys) (y ∷ without same key ys)) ≡ None
-      by true e n = n
-      by false e n = rw e n
+      by t e n = grind arith
 
   find_others : (key other : K) → same key other ≡ false → (ys : List (Pair K)) → find same other (without same key ys) ≡ find same other ys
   unfolding find without
@@ -32,8 +23,7 @@ module _ {K : Type 0} (same : K → K → Bool) (hash : K → ℕ) (laws : KeyLa
   find_others key other d (y ∷ ys) = by (same y.key key) refl (find_others key other d ys)
     where
       by : (t : Bool) → same y.key key ≡ t → find same other (without same key ys) ≡ find same other ys → find same other (cond t (without same key ys) (y ∷ without same key ys)) ≡ cond (same y.key other) (Some y.value) (find same other ys)
-      by true e n = let f = unequal y.key key other e d in rw f n
-      by false e n = ap (λ o. cond (same y.key other) (Some y.value) o) n
+      by t e n = grind arith
 
   -- What is left after taking a key out was there, and has another key.
   left_in : (key : K) (z : Pair K) (ys : List (Pair K)) → Memᴰ z (without same key ys) → Memᴰ z ys × (same z.key key ≡ false)
@@ -52,8 +42,7 @@ module _ {K : Type 0} (same : K → K → Bool) (hash : K → ℕ) (laws : KeyLa
   unlike_without key (y ∷ ys) u = by (same y.key key) (unlike_without key ys u.1)
     where
       by : (t : Bool) → Unlike same (without same key ys) → Unlike same (cond t (without same key ys) (y ∷ without same key ys))
-      by true v = v
-      by false v = ((λ z m e. u.0 z (left_in key z ys m).0 e), v)
+      by t v = grind (arith, left_in)
 
   unlike_put : (v : ℕ) (key : K) (ys : List (Pair K)) → Unlike same ys → Unlike same (map_after same (Put v) key ys)
   unfolding Unlike
@@ -66,9 +55,7 @@ module _ {K : Type 0} (same : K → K → Bool) (hash : K → ℕ) (laws : KeyLa
 
   others : (ask : Ask) (key other : K) (ys : List (Pair K)) → same key other ≡ false → find same other (map_after same ask key ys) ≡ find same other ys
   unfolding find
-  others Get key other ys d = refl
-  others (Put v) key other ys d = rw d (find_others key other d ys)
-  others Cut key other ys d = find_others key other d ys
+  others ask key other ys d = grind (arith, find_others)
 
   apart : (ask : Ask) (key : K) (ys : List (Pair K)) → Unlike same ys → Unlike same (map_after same ask key ys)
   apart Get key ys u = u

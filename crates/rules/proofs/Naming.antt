@@ -1,9 +1,8 @@
 -- What a main names, chunk by chunk.
-use Rattle.std.proofs.Common.{◌≡◌, ℕ, zero, suc, ◌<◌, ◌≤◌, Bool, true, false, cond, List, [], ◌∷◌, Some, None, Option, sym, refl, ap, ◌∙◌, ⊎_elim, arith}
+use Rattle.std.proofs.Common.{◌≡◌, ℕ, zero, suc, ◌<◌, ◌≤◌, Bool, true, List, [], ◌∷◌, Some, Option, sym, refl, ap, ◌∙◌, ⊎_elim, arith}
 use mathlib.Core.List.{Memᴰ}
 use Rattle.std.specs.Option.{option_to_list}
 use Rattle.std.proofs.lemmas.Bool.{cases_eq, and_parts, leb-true}
-use Rattle.std.proofs.lemmas.Option.{none-some, same_Some}
 use Rattle.mains.specs.Nodes.{branch_at}
 use Rattle.mains.specs.declared.Branch.{Branch}
 use Rattle.mains.specs.declared.Branch.TheVariants.{Pair as pair, Cell as cell}
@@ -12,12 +11,11 @@ use Rattle.mains.specs.declared.Main.TheVariants.{Node as node}
 use Rattle.mains.specs.declared.Node.{Node}
 use Rattle.rules.specs.Memory.{Memory, main_in, then}
 use Rattle.rules.specs.Reached.{cells_in, branches_to, branches_of, cells_of}
-use Rattle.rules.specs.Sound.{sound, if_sound, sound_in}
+use Rattle.rules.specs.Sound.{sound, sound_in}
 
 -- A value that may be missing and leads to something is there.
 pub then_some : {A B : Type 0} (o : Option A) (f : A → Option B) (b : B) → then o f ≡ Some b → (a : A) × (o ≡ Some a) × (f a ≡ Some b)
-then_some None f b e = let z : ◌≡◌ {A = ℕ} 0 1 = cc in absurd (omega arith)
-then_some (Some a) f b e = (a, refl, e)
+then_some o f b e = grind arith
 
 cell_listed : (d : ℕ) (bs : List Branch) → Memᴰ (cell d) bs → Memᴰ d (cells_in bs)
 cell_listed d [] m = elim m [ ]
@@ -33,8 +31,7 @@ listed_cell d (cell c ∷ bs) (mathlib.Core.List.Memᴰ.head e) = mathlib.Core.L
 listed_cell d (cell c ∷ bs) (mathlib.Core.List.Memᴰ.tail m) = mathlib.Core.List.Memᴰ.tail (listed_cell d bs m)
 
 in_option : {A : Type 0} (a : A) (o : Option A) → Memᴰ a (option_to_list o) → o ≡ Some a
-in_option a None m = elim m [ ]
-in_option a (Some b) m = ap Some (sym (mathlib.Core.List.Memᴰ.eq_of_singleton m))
+in_option a o m = grind arith
 
 option_in : {A : Type 0} (a : A) (o : Option A) → o ≡ Some a → Memᴰ a (option_to_list o)
 option_in a o e = rw e (mathlib.Core.List.Memᴰ.head refl)
@@ -64,19 +61,9 @@ unfolding branches_of
 at_cell n d q l e = cell_listed d (branches_to n 32) (chunk_in n (cell d) 32 q l e)
 
 module _ {K : Type 0} (same : K → K → Bool) (hash : K → ℕ) (m : Memory K) where
-  if_sound_lem : (index : ℕ) (y x : Main) → if_sound same hash m.pairs index y ≡ Some x → (y ≡ x) × (sound same hash m.pairs index y ≡ true)
-  if_sound_lem index y x e = by (sound same hash m.pairs index y) refl e
-    where
-      by : (t : Bool) → sound same hash m.pairs index y ≡ t → cond t (Some y) None ≡ Some x → (y ≡ x) × (sound same hash m.pairs index y ≡ true)
-      by true s e = (same_Some y x e, s)
-      by false s e = absurd (none-some _ e)
-
   -- A main that is found sound keeps the rules.
   pub sound_in_lem : (index c : ℕ) (x : Main) → sound_in same hash m index c ≡ Some x → (main_in m c ≡ Some x) × (sound same hash m.pairs index x ≡ true)
-  sound_in_lem index c x e =
-      let found = then_some (main_in m c) (if_sound same hash m.pairs index) x e in
-      let k = if_sound_lem index found.0 x found.2 in
-      (found.1 ∙ ap Some k.0, ap (sound same hash m.pairs index) (sym k.0) ∙ k.1)
+  sound_in_lem index c x e = grind arith
 
   -- A node stands at index 6 at the most.
   pub node_high : (index c : ℕ) (n : Node) → sound_in same hash m index c ≡ Some (node n) → index ≤ 6

@@ -1,5 +1,5 @@
 -- The book of a history: which calls are stamped, whose they are, and how each stands or ended. One event more keeps it.
-use Rattle.std.proofs.Common.{◌≡◌, ℕ, ◌<◌, ◌≤◌, true, false, ◌⊎◌, List, ◌∷◌, Some, None, Ok, Err, Option, sym, refl, ap, ◌∙◌, subst, inl, inr, arith}
+use Rattle.std.proofs.Common.{◌≡◌, ℕ, ◌<◌, ◌≤◌, true, false, ◌⊎◌, List, ◌∷◌, Some, None, Ok, Option, sym, refl, ap, ◌∙◌, subst, inl, inr, arith}
 use mathlib.Core.List.{Memᴰ}
 use Rattle.std.specs.List.{slice_get}
 use Rattle.std.proofs.lemmas.Bool.{cases_eq}
@@ -11,7 +11,7 @@ use Rattle.rules.specs.Theorem.{StampedCall, Asked, TurnOf, WithdrawalOf, OwnTur
 use Rattle.rules.specs.declared.Call.{Call}
 use Rattle.rules.specs.declared.Call.TheVariants.{Open, Turn, Withdraw, Count}
 use Rattle.rules.specs.declared.Reply.{Reply}
-use Rattle.rules.specs.declared.Reply.TheVariants.{Opened, Turned, Withdrew, Counted}
+use Rattle.rules.specs.declared.Reply.TheVariants.{Opened, Turned, Withdrew}
 use Rattle.rules.specs.declared.Seat.{Seat}
 use Rattle.rules.specs.declared.Stamped.{Stamped}
 use Rattle.theory.specs.Records.{Phased}
@@ -19,21 +19,13 @@ use Rattle.theory.specs.Records.{Phased}
 -- The number that a reply gives to an opening.
 abbrev pub opened_by : Reply → Option ℕ
 opened_by (Opened (Ok n)) = Some n
-opened_by (Opened (Err e)) = None
-opened_by (Turned r) = None
-opened_by (Withdrew r) = None
-opened_by (Counted c) = None
+opened_by _ = None
 
 -- The result and stamp with which a reply ends a call.
 abbrev pub ended_by : Reply → Option Stamped
-ended_by (Opened r) = None
-ended_by (Turned (Ok None)) = None
 ended_by (Turned (Ok (Some z))) = Some z
-ended_by (Turned (Err e)) = None
-ended_by (Withdrew (Ok None)) = None
 ended_by (Withdrew (Ok (Some z))) = Some z
-ended_by (Withdrew (Err e)) = None
-ended_by (Counted c) = None
+ended_by _ = None
 
 -- The seat of a call.
 abbrev pub seat_in : {K : Type 0} → Call K → ℕ

@@ -67,11 +67,7 @@ place_in (x ∷ xs) (suc t) d e = Memᴰ.tail (place_in xs t d e)
 
 -- The cell before the last is the first of those above it.
 parent_is : (cells : List ℕ) (depth c : ℕ) → cond (eqb depth 0) None (slice_get cells (depth - 1)) ≡ Some c → first (above cells depth) ≡ c
-parent_is cells zero c e = let z : ◌≡◌ {A = ℕ} 0 1 = cc in absurd (omega arith)
-parent_is cells (suc i) c e =
-    let p : suc i - 1 ≡ i = omega arith in
-    let q = ne_eqb (suc i) 0 (λ n. omega (arith, n)) in
-    get_or_from_slice_get cells i c 0 (sym (ap (λ (j : ℕ). slice_get cells j) p) ∙ (sym (ap (λ (b : Bool). cond b None (slice_get cells (suc i - 1))) q) ∙ e))
+parent_is cells depth c e = grind (arith, ne_eqb, get_or_from_slice_get)
 
 -- New cells are as many as their numbers.
 news_length : (ks : List NewCell) → length (cells_of (news ks)) ≡ length ks

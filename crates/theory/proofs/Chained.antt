@@ -12,7 +12,7 @@ use Rattle.rules.specs.Edits.{links_of, Link, linked, chain_for, places, with_ce
 use Rattle.rules.specs.Reached.{Once}
 use Rattle.rules.specs.Seats.{chain_of, no_cell}
 use Rattle.rules.specs.declared.Edit.{Edit}
-use Rattle.rules.specs.declared.Edit.TheVariants.{Fixed, Insert, Replace, Append, Relist, Split}
+use Rattle.rules.specs.declared.Edit.TheVariants.{Split}
 use Rattle.rules.specs.declared.Fork.{Fork}
 use Rattle.rules.specs.declared.NewCell.{NewCell}
 use Rattle.theory.proofs.Entries.{set_here, set_there}
@@ -61,27 +61,21 @@ mains_filled mains (i ∷ is) = mains_filled _ is
 -- Where no place is wanted, none is given.
 bare : (cells mains : List ℕ) → length cells ≡ 0 → length mains ≡ 0 → ([] ≡ cells) × ([] ≡ mains)
 bare [] [] c m = (refl, refl)
-bare [] (n ∷ mains) c m = absurd (omega arith)
-bare (d ∷ cells) mains c m = absurd (omega arith)
+bare _ _ c m = absurd (omega arith)
 
 linked_places : (f : Fork) (p index : ℕ) (cells mains : List ℕ) → length cells ≡ length mains
     → (map cell_of (linked f p index cells mains) ≡ cells) × (map number_of (linked f p index cells mains) ≡ mains)
 linked_places f p index [] [] e = (refl, refl)
-linked_places f p index [] (n ∷ mains) e = absurd (omega arith)
-linked_places f p index (c ∷ cells) [] e = absurd (omega arith)
 linked_places f p index (c ∷ cells) (n ∷ mains) e =
     let r = linked_places f p (index + 1) cells mains (omega (arith, e)) in
     (ap (λ (xs : List ℕ). c ∷ xs) r.0, ap (λ (xs : List ℕ). n ∷ xs) r.1)
+linked_places f p index _ _ e = absurd (omega arith)
 
 -- An edit takes each of its places for one link, in order.
 pub chain_places : (edit : Edit) (p : ℕ) (cells mains : List ℕ) → length cells ≡ links_of edit → length mains ≡ links_of edit
     → (map cell_of (chain_for edit p cells mains) ≡ cells) × (map number_of (chain_for edit p cells mains) ≡ mains)
-chain_places (Fixed x) p cells mains c m = bare cells mains c m
-chain_places (Insert n q) p cells mains c m = bare cells mains c m
-chain_places (Replace n q) p cells mains c m = bare cells mains c m
-chain_places (Append l) p cells mains c m = bare cells mains c m
-chain_places (Relist l i) p cells mains c m = bare cells mains c m
 chain_places (Split f) p cells mains c m = linked_places f p (f.index + 1) cells mains (c ∙ sym m)
+chain_places _ p cells mains c m = bare cells mains c m
 
 -- THE NEW CELLS OF A CHAIN
 

@@ -1,10 +1,10 @@
 -- The chain of new cells that an edit makes, in the places taken.
-use Rattle.std.proofs.Common.{◌≡◌, ℕ, zero, suc, ◌+◌, ◌-◌, ◌<◌, ◌≤◌, ◌⊎◌, List, [], ◌∷◌, ◌++◌, length, take, replicate, sym, refl, ap, subst, inl, inr, arith, length-append, length-take}
+use Rattle.std.proofs.Common.{◌≡◌, ℕ, zero, suc, ◌+◌, ◌<◌, ◌≤◌, ◌⊎◌, List, [], ◌∷◌, ◌++◌, length, take, replicate, sym, refl, ap, subst, arith, length-append, length-take}
 use mathlib.Core.List.{Memᴰ}
 use Rattle.rules.specs.Edits.{Link, linked, chain_for, links_of, places, first, rest}
 use Rattle.rules.specs.Seats.{no_cell, chain_of}
 use Rattle.rules.specs.declared.Edit.{Edit}
-use Rattle.rules.specs.declared.Edit.TheVariants.{Fixed, Insert, Replace, Append, Relist, Split}
+use Rattle.rules.specs.declared.Edit.TheVariants.{Split}
 use Rattle.rules.specs.declared.Fork.{Fork}
 use Rattle.rules.specs.declared.NewCell.{NewCell}
 use Rattle.theory.proofs.Fineness.{fine_link}
@@ -20,23 +20,16 @@ rest_in [] y m = m
 rest_in (x ∷ xs) y m = Memᴰ.tail m
 
 pub first_or_rest : (xs : List ℕ) (y : ℕ) → Memᴰ y xs → (y ≡ first xs) ⊎ Memᴰ y (rest xs)
-first_or_rest [] y m = elim m [ ]
-first_or_rest (x ∷ xs) y (Memᴰ.head e) = inl e
-first_or_rest (x ∷ xs) y (Memᴰ.tail m) = inr m
-
-pub length_rest : (xs : List ℕ) → length (rest xs) ≡ length xs - 1
-length_rest [] = refl
-length_rest (x ∷ xs) = omega arith
+first_or_rest xs y m = grind arith
 
 -- THE CHAIN OF A FORK
 
 module _ (f : Fork) (p : ℕ) where
   -- Each link lies in a cell and a main place that were given.
   linked_in : (index : ℕ) (cells mains : List ℕ) (k : Link) → Memᴰ k (linked f p index cells mains) → Memᴰ k.place.cell cells × Memᴰ k.place.main mains
-  linked_in index [] mains k m = elim m [ ]
-  linked_in index (c ∷ cells) [] k m = elim m [ ]
   linked_in index (c ∷ cells) (n ∷ mains) k (Memᴰ.head e) = (Memᴰ.head (ap (λ (i : Link). i.place.cell) e), Memᴰ.head (ap (λ (i : Link). i.place.main) e))
   linked_in index (c ∷ cells) (n ∷ mains) k (Memᴰ.tail m) = let i = linked_in (index + 1) cells mains k m in (Memᴰ.tail i.0, Memᴰ.tail i.1)
+  linked_in index _ _ k m = elim m [ ]
 
   -- As far as there are main places, each cell has its link; and as far as there are cells, each main place.
   linked_cell : (index : ℕ) (cells mains : List ℕ) → length cells ≤ length mains → (c : ℕ) → Memᴰ c cells → (k : Link) × Memᴰ k (linked f p index cells mains) × (k.place.cell ≡ c)
@@ -52,9 +45,8 @@ module _ (f : Fork) (p : ℕ) where
   linked_main index (d ∷ cells) (n ∷ mains) l i (Memᴰ.tail m) = let j = linked_main (index + 1) cells mains (omega arith) i m in (j.0, Memᴰ.tail j.1, j.2)
 
   linked_short : (index : ℕ) (cells mains : List ℕ) → length (places (linked f p index cells mains)) ≤ length cells
-  linked_short index [] mains = omega arith
-  linked_short index (c ∷ cells) [] = omega arith
   linked_short index (c ∷ cells) (n ∷ mains) = let l = linked_short (index + 1) cells mains in omega (arith, l)
+  linked_short index _ _ = omega arith
 
   -- Each link holds a fine main: it names both pairs, or the next of the cells, which lie among those that may be named.
   pub linked_fine : {all : List ℕ} {pairs : ℕ} (index : ℕ) (cells mains : List ℕ) → Memᴰ 0 all → ((c : ℕ) → Memᴰ c cells → Memᴰ c all) → f.pair < pairs → p < pairs
@@ -76,28 +68,15 @@ data Kind : Edit → Type 0 where
   fork : (f : Fork) → Kind (Split f)
 
 kind : (e : Edit) → Kind e
-kind (Fixed x) = Kind.plain refl (λ p c m. refl)
-kind (Insert n q) = Kind.plain refl (λ p c m. refl)
-kind (Replace n q) = Kind.plain refl (λ p c m. refl)
-kind (Append l) = Kind.plain refl (λ p c m. refl)
-kind (Relist l i) = Kind.plain refl (λ p c m. refl)
 kind (Split f) = Kind.fork f
-
-no_link : {A : Type 0} {k : Link} (ks : List Link) → ks ≡ [] → Memᴰ k ks → A
-no_link [] e m = elim m [ ]
-no_link (i ∷ ks) e m = let z : ◌≡◌ {A = ℕ} 0 1 = cc in absurd (omega arith)
+kind _ = Kind.plain refl (λ p c m. refl)
 
 no_place : {A : Type 0} {x n : ℕ} (xs : List ℕ) → n ≡ 0 → length xs ≤ n → Memᴰ x xs → A
-no_place [] e l m = elim m [ ]
-no_place (x ∷ xs) e l m = absurd (omega arith)
+no_place xs e l m = grind arith
 
 module _ (p : ℕ) (cells mains : List ℕ) where
   pub chain_in_lem : (e : Edit) (k : Link) → Memᴰ k (chain_for e p cells mains) → Memᴰ k.place.cell cells × Memᴰ k.place.main mains
-  chain_in_lem e k m = by e (kind e) m
-    where
-      by : (e : Edit) → Kind e → Memᴰ k (chain_for e p cells mains) → Memᴰ k.place.cell cells × Memᴰ k.place.main mains
-      by e (Kind.plain o q) m = no_link _ (q p cells mains) m
-      by e (Kind.fork f) m = linked_in f p (f.index + 1) cells mains k m
+  chain_in_lem e k m = grind (arith, linked_in)
 
   pub chain_cell : (e : Edit) → length cells ≤ links_of e → length cells ≤ length mains → (c : ℕ) → Memᴰ c cells → (k : Link) × Memᴰ k (chain_for e p cells mains) × (k.place.cell ≡ c)
   chain_cell e few l c m = by e (kind e) few
@@ -114,11 +93,7 @@ module _ (p : ℕ) (cells mains : List ℕ) where
       by e (Kind.fork f) few = linked_main f p (f.index + 1) cells mains l n m
 
   pub chain_short : (e : Edit) → length (places (chain_for e p cells mains)) ≤ length cells
-  chain_short e = by e (kind e)
-    where
-      by : (e : Edit) → Kind e → length (places (chain_for e p cells mains)) ≤ length cells
-      by e (Kind.plain o q) = subst (λ (ks : List Link). length (places ks) ≤ length cells) (sym (q p cells mains)) (omega arith)
-      by e (Kind.fork f) = linked_short f p (f.index + 1) cells mains
+  chain_short e = grind (arith, linked_short)
 
 -- THE CHAIN IN THE RECORD OF A SEAT
 
@@ -139,8 +114,4 @@ recorded_in xs x m = front_in 7 xs (replicate 7 no_cell) x m
 
 -- Seven at the most are recorded whole.
 pub recorded_whole : (xs : List NewCell) → length xs ≤ 7 → length (take (length xs) (chain_of xs)) ≡ length xs
-recorded_whole xs l =
-    let a = length-take (length xs) (chain_of xs) in
-    let b = length-take 7 (xs ++ replicate 7 no_cell) in
-    let c = length-append xs (replicate 7 no_cell) in
-    omega (arith, a, b, c, l)
+recorded_whole xs l = grind (arith, length-take, length-append)

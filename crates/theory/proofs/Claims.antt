@@ -1,11 +1,10 @@
 -- What the seats claim: the cells, mains and pairs that each seat's record names, and how many these are.
-use Rattle.std.proofs.Common.{◌≡◌, ℕ, zero, suc, ◌+◌, ◌*◌, ◌<◌, ◌≤◌, min, Bool, true, false, cond, ◌⊎◌, List, [], ◌∷◌, ◌++◌, map, length, get_or, take, Some, sym, refl, ap, ◌∙◌, subst, inl, inr, ⊎_elim, mul-suc, arith, length-append, length-take}
+use Rattle.std.proofs.Common.{◌≡◌, ℕ, zero, suc, ◌+◌, ◌*◌, ◌<◌, ◌≤◌, Bool, false, cond, ◌⊎◌, List, [], ◌∷◌, ◌++◌, map, length, get_or, take, Some, ⊎_elim, mul-suc, arith, length-append, length-take}
 use mathlib.Core.List.Memᴰ
 use mathlib.Core.List.{Memᴰ}
 use lib.ListN.{length-map}
 use Rattle.std.specs.List.{slice_get}
-use Rattle.std.proofs.lemmas.Option.{same_Some}
-use Rattle.std.proofs.lemmas.Bool.{cases_eq, cases_Bool, true≢false}
+use Rattle.std.proofs.lemmas.Bool.{cases_eq}
 use Rattle.rules.specs.Edits.{rest}
 use Rattle.rules.specs.InUse.{is_pending}
 use Rattle.rules.specs.Memory.{Memory, State}
@@ -14,12 +13,12 @@ use Rattle.rules.specs.Seats.{seat_of, is_idle, path_cells, new_cells}
 use Rattle.rules.specs.declared.Figures.{Figures}
 use Rattle.rules.specs.declared.NewCell.{NewCell}
 use Rattle.rules.specs.declared.Phase.{Phase}
-use Rattle.rules.specs.declared.Phase.TheVariants.{Idle, Read, Swap, Climb, Parent, Clean}
+use Rattle.rules.specs.declared.Phase.TheVariants.{Swap}
 use Rattle.rules.specs.declared.Seat.{Seat}
 use Rattle.rules.proofs.Counting.{in_gathered}
 use Rattle.theory.proofs.Writing.{Poised}
 use Rattle.theory.specs.Places.{Leaves}
-use Rattle.theory.specs.Records.{Kept, Steady}
+use Rattle.theory.specs.Records.{Steady}
 
 -- THE LISTS OF THE SEATS TOGETHER
 
@@ -40,18 +39,7 @@ module _ {K : Type 0} (same : K → K → Bool) (hash : K → ℕ) (m : Memory K
   leaving t wanted h (suc n) l = by (cases_eq t n) (λ d. leaving t wanted h n d)
     where
       by : (t ≡ n) ⊎ (t ≡ n → ⊥) → (t < n → length (gathered same hash m lists n) + wanted ≤ b * n) → length (gathered same hash m lists n ++ lists n) + wanted ≤ b * suc n
-      by (inl e) later =
-          let k = together n in
-          let h' = subst (λ p. length (lists p) + wanted ≤ b) e h in
-          let a = length-append (gathered same hash m lists n) (lists n) in
-          let u = mul-suc b n in
-          omega (arith, k, h', a, u)
-      by (inr d) later =
-          let k = later (omega (arith, l, d)) in
-          let e = each n in
-          let a = length-append (gathered same hash m lists n) (lists n) in
-          let u = mul-suc b n in
-          omega (arith, k, e, a, u)
+      by e later = grind (arith, together, length-append, mul-suc)
 
   -- Where each place in use is in one list, or in that of a seat, the places leave what one seat leaves.
   pub seats_leave : (InUse : ℕ → Type 0) (n wanted : ℕ) (xs : List ℕ) (seats t : ℕ) → t < seats → length (lists t) + wanted ≤ b → length xs + b * seats ≤ n
@@ -73,29 +61,18 @@ module _ {K : Type 0} (same : K → K → Bool) (hash : K → ℕ) (m : Memory K
 
 -- What stands in the beginning of a list is its first, or is in the rest.
 pub first_or_rest : (c a n : ℕ) (xs : List ℕ) → slice_get xs 0 ≡ Some a → Memᴰ c (take n xs) → (c ≡ a) ⊎ Memᴰ c (rest (take n xs))
-first_or_rest c a zero xs e m = elim m [ ]
-first_or_rest c a (suc n) [] e m = elim m [ ]
-first_or_rest c a (suc n) (x ∷ xs) e (Memᴰ.head h) = inl (h ∙ same_Some x a e)
-first_or_rest c a (suc n) (x ∷ xs) e (Memᴰ.tail m) = inr m
+first_or_rest c a n xs e m = grind arith
 
 -- Of n + 1 cells of a path, n at most are below the first.
 rest_length : (n : ℕ) (xs : List ℕ) → length (rest (take (n + 1) xs)) ≤ n
-rest_length n xs = by (take (n + 1) xs) (length-take (n + 1) xs)
-  where
-    by : (ys : List ℕ) → length ys ≡ min (n + 1) (length xs) → length (rest ys) ≤ n
-    by [] e = omega arith
-    by (y ∷ ys) e = omega (arith, e)
+rest_length n xs = grind (arith, length-take)
 
 -- WHAT A SEAT CLAIMS
 
 -- What only a seat in SWAP has.
 abbrev pub in_swap : {A : Type 0} → Phase → List A → List A
-in_swap Idle xs = []
-in_swap Read xs = []
 in_swap Swap xs = xs
-in_swap Climb xs = []
-in_swap Parent xs = []
-in_swap Clean xs = []
+in_swap _ xs = []
 
 -- The cells of the path below the root.
 abbrev pub below_root : Seat → List ℕ
@@ -119,32 +96,7 @@ pairs_by x = in_swap x.phase (x.pending.pair ∷ [])
 
 -- What is not pending is not in SWAP.
 not_swap : {A : Type 0} (phase : Phase) (xs : List A) → is_pending phase ≡ false → length (in_swap phase xs) ≡ 0
-not_swap Idle xs p = refl
-not_swap Read xs p = refl
-not_swap Swap xs p = absurd (true≢false p)
-not_swap Climb xs p = refl
-not_swap Parent xs p = refl
-not_swap Clean xs p = refl
-
-swap_most : {A : Type 0} (phase : Phase) (xs : List A) → length (in_swap phase xs) ≤ length xs
-swap_most Idle xs = omega arith
-swap_most Read xs = omega arith
-swap_most Swap xs = omega arith
-swap_most Climb xs = omega arith
-swap_most Parent xs = omega arith
-swap_most Clean xs = omega arith
-
--- An open call's path and its new cells are seven at most, the root not counted.
-seven : (x : Seat) → Kept x → Poised x → x.path.depth + length (in_swap x.phase (new_cells x)) ≤ 7
-seven x k p = by x.phase refl
-  where
-    by : (phase : Phase) → x.phase ≡ phase → x.path.depth + length (in_swap phase (new_cells x)) ≤ 7
-    by Idle e = let s = k.short in omega (arith, s)
-    by Read e = let s = k.short in omega (arith, s)
-    by Swap e = let s = p.short e in let l = p.links e in omega (arith, s, l)
-    by Climb e = let s = k.short in omega (arith, s)
-    by Parent e = let s = k.short in omega (arith, s)
-    by Clean e = let s = k.short in omega (arith, s)
+not_swap phase xs p = grind arith
 
 cells_length : (x : Seat) → length (cells_by x) ≤ x.path.depth + length (in_swap x.phase (new_cells x))
 cells_length x =
@@ -167,50 +119,29 @@ mains_length words x =
     omega (arith, a, b, c, d, e, h)
   where
     two : (b : Bool) → length (cond b (x.pending.expected ∷ x.pending.made ∷ []) []) ≡ cond b 2 0
-    two true = refl
-    two false = refl
+    two b = grind arith
 
 -- A seat claims one pair at most.
 pub pairs_length : (x : Seat) → length (pairs_by x) ≤ 1
-pairs_length x = swap_most x.phase (x.pending.pair ∷ [])
+pairs_length x = grind arith
 
 -- A seat that has nothing pending claims its path, and no pair.
 pub plain_cells : (x : Seat) → is_pending x.phase ≡ false → length (cells_by x) ≤ x.path.depth
-plain_cells x p =
-    let a = cells_length x in
-    let b = not_swap x.phase (new_cells x) p in
-    omega (arith, a, b)
+plain_cells x p = grind (arith, cells_length, not_swap)
 
 pub plain_mains : (words : List ℕ) (x : Seat) → is_pending x.phase ≡ false → length (mains_by words x) ≤ x.path.depth
-plain_mains words x p =
-    let a = mains_length words x in
-    let b = not_swap x.phase (new_cells x) p in
-    let c : ◌≡◌ {A = ℕ} (cond (is_pending x.phase) 2 0) 0 = ap (λ (b : Bool). cond b 2 0) p in
-    omega (arith, a, b, c)
+plain_mains words x p = grind (arith, mains_length, not_swap)
 
 pub plain_pairs : (x : Seat) → is_pending x.phase ≡ false → length (pairs_by x) ≡ 0
 plain_pairs x p = not_swap x.phase (x.pending.pair ∷ []) p
 
 module _ {K : Type 0} {f : Figures} {s : State K} (w : Steady f s) (poised : (t : ℕ) → is_idle (seat_of s t).phase ≡ false → Poised (seat_of s t)) where
   seat_seven : (t : ℕ) → (seat_of s t).path.depth + length (in_swap (seat_of s t).phase (new_cells (seat_of s t))) ≤ 7
-  seat_seven t =
-      ⊎_elim
-      (λ (i : is_idle (seat_of s t).phase ≡ true).
-      subst (λ (x : Seat). x.path.depth + length (in_swap x.phase (new_cells x)) ≤ 7) (sym (w.idle t i)) (omega arith))
-      (λ (o : is_idle (seat_of s t).phase ≡ false). seven (seat_of s t) (w.calls t o).1 (poised t o))
-      (cases_Bool (is_idle (seat_of s t).phase))
+  seat_seven t = grind arith
 
   -- Each seat claims seven cells and nine mains at most.
   pub seat_cells : (t : ℕ) → length (cells_by (seat_of s t)) ≤ 7
   seat_cells t = let a = cells_length (seat_of s t) in let b = seat_seven t in omega (arith, a, b)
 
   pub seat_mains : (words : List ℕ) (t : ℕ) → length (mains_by words (seat_of s t)) ≤ 9
-  seat_mains words t =
-      let a = mains_length words (seat_of s t) in
-      let b = seat_seven t in
-      let c = two (is_pending (seat_of s t).phase) in
-      omega (arith, a, b, c)
-    where
-      two : (b : Bool) → cond b 2 0 ≤ 2
-      two true = omega arith
-      two false = omega arith
+  seat_mains words t = grind (arith, mains_length, seat_seven)

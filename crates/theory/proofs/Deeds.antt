@@ -1,5 +1,5 @@
 -- What a turn does to the call of its seat: it fixes one result at most, once, and keeps it until the call ends.
-use Rattle.std.proofs.Common.{◌≡◌, ℕ, suc, Bool, true, false, cond, ◌&&◌, leb, List, Some, None, Ok, Err, Option, Result, is_some, unwrap_or, sym, refl, ap, ◌∙◌}
+use Rattle.std.proofs.Common.{◌≡◌, ℕ, suc, Bool, true, false, cond, ◌&&◌, leb, List, Some, None, Ok, Err, Option, Result, is_some, unwrap_or, sym, refl, ap, ◌∙◌, arith}
 use Rattle.std.specs.List.{slice_get}
 use Rattle.std.proofs.lemmas.Bool.{and_parts, false≢true}
 use Rattle.panel.specs.declared.Refusal.{Refusal}
@@ -12,7 +12,6 @@ use Rattle.rules.specs.Turns.{refusing, keyed}
 use Rattle.rules.specs.declared.Edit.{Edit}
 use Rattle.rules.specs.declared.Outcome.{Outcome}
 use Rattle.rules.specs.declared.Phase.{Phase}
-use Rattle.rules.specs.declared.Phase.TheVariants.{Idle, Read, Swap, Climb, Parent, Clean}
 use Rattle.rules.specs.declared.Plan.{Plan}
 use Rattle.rules.specs.declared.Plan.TheVariants.{Refuse, Quit, Finish, Settle, Close, Go, Make}
 use Rattle.rules.specs.declared.Seat.{Seat}
@@ -22,12 +21,7 @@ use Rattle.theory.proofs.Plans.{Follows, plan_follows}
 use Rattle.theory.specs.Records.{Phased}
 
 pub phased_open : (phase : Phase) (b : Bool) → Phased phase b → is_idle phase ≡ false
-phased_open Idle b p = absurd p
-phased_open Read b p = refl
-phased_open Swap b p = refl
-phased_open Climb b p = refl
-phased_open Parent b p = refl
-phased_open Clean b p = refl
+phased_open phase b p = grind arith
 
 -- The call of a seat goes on in another record: what has settled stays.
 pub record Onward (x y : Seat) : Type 0 where

@@ -3,7 +3,6 @@ use Rattle.std.proofs.Common.{◌≡◌, ℕ, ◌+◌, ◌<◌, ◌≤◌, Bool,
 use mathlib.Core.List.{Memᴰ}
 use Rattle.keys.specs.Routes.{chunk_at}
 use Rattle.keys.proofs.Chunks.{parting_parts}
-use Rattle.std.proofs.lemmas.Bool.{false≢true}
 use Rattle.mains.specs.Lists.{unlisted}
 use Rattle.mains.specs.Nodes.{removed}
 use Rattle.mains.specs.declared.Branch.TheVariants.{Pair as pair, Cell as cell}
@@ -22,42 +21,18 @@ use Rattle.theory.proofs.Writing.{Fine, Hopes}
 module _ {K : Type 0} (same : K → K → Bool) (hash : K → ℕ) {m : Memory K} {k : K} {index : ℕ} where
   -- A put makes a pair, and only a put adds one.
   pub drafts_pair : {ask : Ask} {y : Main} {edit : Edit} {r : Outcome} → Drafts same hash m k index ask y edit r → is_put ask ≡ true → makes_pair edit ≡ true
-  drafts_pair (Drafts.inserts v y b) a = refl
-  drafts_pair (Drafts.replaces v y i z b h t) a = refl
-  drafts_pair (Drafts.removes y i z b h t) a = absurd (false≢true a)
-  drafts_pair (Drafts.splits v y i z b h t) a = refl
-  drafts_pair (Drafts.appends v l ys h t room) a = refl
-  drafts_pair (Drafts.relists v l ys i w h t) a = refl
-  drafts_pair (Drafts.unlists l ys i w h t) a = absurd (false≢true a)
+  drafts_pair e a = grind arith
 
   pub drafts_adds : {ask : Ask} {y : Main} {edit : Edit} {r : Outcome} → Drafts same hash m k index ask y edit r → adds_pair edit ≡ true → is_put ask ≡ true
-  drafts_adds (Drafts.inserts v y b) a = refl
-  drafts_adds (Drafts.replaces v y i z b h t) a = refl
-  drafts_adds (Drafts.removes y i z b h t) a = absurd (false≢true a)
-  drafts_adds (Drafts.splits v y i z b h t) a = refl
-  drafts_adds (Drafts.appends v l ys h t room) a = refl
-  drafts_adds (Drafts.relists v l ys i w h t) a = refl
-  drafts_adds (Drafts.unlists l ys i w h t) a = absurd (false≢true a)
+  drafts_adds e a = grind arith
 
   -- A put will have stored, a cut removed.
   pub drafts_hopes : {ask : Ask} {y : Main} {edit : Edit} {r : Outcome} → Drafts same hash m k index ask y edit r → Hopes ask r
-  drafts_hopes (Drafts.inserts v y b) = refl
-  drafts_hopes (Drafts.replaces v y i z b h t) = refl
-  drafts_hopes (Drafts.removes y i z b h t) = (z.value, refl)
-  drafts_hopes (Drafts.splits v y i z b h t) = refl
-  drafts_hopes (Drafts.appends v l ys h t room) = refl
-  drafts_hopes (Drafts.relists v l ys i w h t) = refl
-  drafts_hopes (Drafts.unlists l ys i w h t) = (w, refl)
+  drafts_hopes e = grind arith
 
   -- No new cell lies past index 7.
   pub drafts_room : {ask : Ask} {y : Main} {edit : Edit} {r : Outcome} → Drafts same hash m k index ask y edit r → index ≤ 7 → index + links_of edit ≤ 7
-  drafts_room (Drafts.inserts v y b) l = omega arith
-  drafts_room (Drafts.replaces v y i z b h t) l = omega arith
-  drafts_room (Drafts.removes y i z b h t) l = omega arith
-  drafts_room (Drafts.splits v y i z b h t) l = let e = (parting_parts (hash z.key) (hash k) (index + 1)).inside in omega (arith, e)
-  drafts_room (Drafts.appends v l ys h t room) o = omega arith
-  drafts_room (Drafts.relists v l ys i w h t) o = omega arith
-  drafts_room (Drafts.unlists l ys i w h t) o = omega arith
+  drafts_room e l = grind (arith, parting_parts)
 
   module _ {cells : List ℕ} {pairs : ℕ} (p : ℕ) where
     -- The new main, with its pair in a place p that may be named, and its first new cell d.
@@ -74,10 +49,5 @@ module _ {K : Type 0} (same : K → K → Bool) (hash : K → ℕ) {m : Memory K
     -- And what its new cells hold.
     pub fine_chain : {ask : Ask} {y : Main} {edit : Edit} {r : Outcome} (news mains : List ℕ) → Fine cells pairs y → Drafts same hash m k index ask y edit r
         → (makes_pair edit ≡ true → p < pairs) → Memᴰ 0 cells → ((c : ℕ) → Memᴰ c news → Memᴰ c cells) → (i : Link) → Memᴰ i (chain_for edit p news mains) → Fine cells pairs i.holds
-    fine_chain news mains f (Drafts.inserts v y b) g o n i e = elim e [ ]
-    fine_chain news mains f (Drafts.replaces v y j z b h t) g o n i e = elim e [ ]
-    fine_chain news mains f (Drafts.removes y j z b h t) g o n i e = elim e [ ]
     fine_chain news mains f (Drafts.splits v y j z b h t) g o n i e = linked_fine (record { node = y; index = index; chunk = chunk_at (hash k) index; pair = j; standing = hash z.key; coming = hash k }) p (index + 1) news mains o n (f.paired j (_, b)) (g refl) i e
-    fine_chain news mains f (Drafts.appends v l ys h t room) g o n i e = elim e [ ]
-    fine_chain news mains f (Drafts.relists v l ys j w h t) g o n i e = elim e [ ]
-    fine_chain news mains f (Drafts.unlists l ys j w h t) g o n i e = elim e [ ]
+    fine_chain news mains f _ g o n i e = elim e [ ]

@@ -1,5 +1,5 @@
 -- What a put or a cut drafts from a list, in the words of the machine.
-use Rattle.std.proofs.Common.{◌≡◌, ℕ, ◌<◌, ◌≤◌, Bool, true, false, T, eqb, leb, ◌⊎◌, List, [], ◌∷◌, map, length, get_or, take, set, Some, None, sym, refl, ap, ◌∙◌, subst, inl, inr, arith, length-set}
+use Rattle.std.proofs.Common.{◌≡◌, ℕ, ◌<◌, ◌≤◌, Bool, true, false, T, eqb, ◌⊎◌, List, [], ◌∷◌, map, length, get_or, take, set, Some, None, sym, refl, ap, ◌∙◌, subst, arith, length-set}
 use mathlib.Core.List.{Memᴰ}
 use mathlib.Core.Option.{none, some}
 use Rattle.std.specs.List.{slice_get, remove}
@@ -21,7 +21,7 @@ use Rattle.mains.specs.declared.Main.TheVariants.{Tomb as tomb, List as listing}
 use Rattle.mains.specs.declared.PairList.{PairList}
 use Rattle.rules.specs.Edits.{kept_list}
 use Rattle.rules.specs.Memory.{Memory}
-use Rattle.rules.specs.Sound.{sound, pairs_at, all_alike}
+use Rattle.rules.specs.Sound.{sound, pairs_at}
 use Rattle.rules.specs.Turns.{place_of}
 use Rattle.rules.specs.declared.Pair.{Pair}
 use Rattle.theory.proofs.Gathering.{Gathers, gathered, gathers_set, gathers_out, gathers_in, gathers_at, gathers_one, shown_gathers, alike_no_twice, place_none, place_some}
@@ -40,8 +40,7 @@ module _ {K : Type 0} (same : K → K → Bool) (hash : K → ℕ) (laws : Laws 
     (i : ℕ) (x : K × ℕ) (at : placed vs i ≡ some x) (t : T (same x.0 k)) where
   -- The pair at the place i has a key equal to k, so a pair of another key is not the one there.
   not_there : (y : K × ℕ) → ¬ T (same y.0 k) → (us : List (K × ℕ)) → In y us ⊎ (x ≡ y) → In y us
-  not_there y f us (inl j) = j
-  not_there y f us (inr e) = absurd (f (subst (λ (u : K × ℕ). T (same u.0 k)) e t))
+  not_there y f us e = grind arith
 
   listed_x : In x (gather m.pairs ps)
   listed_x = gathers_in m.pairs ps vs i x at g
@@ -61,8 +60,7 @@ module _ {K : Type 0} (same : K → K → Bool) (hash : K → ℕ) (laws : Laws 
       (λ y j f. carry (sym new) (not_there y f (set vs i (k, v)) (set_kept vs i x (k, v) y at (carry old j))))
     where
       own : (y : K × ℕ) → ¬ T (same y.0 k) → In y vs ⊎ ((k, v) ≡ y) → In y vs
-      own y f (inl j) = j
-      own y f (inr s) = absurd (f (subst (λ (u : K × ℕ). T (same u.0 k)) s (laws.reflexive k)))
+      own y f e = grind arith
 
   -- What stays when that place is taken out.
   module _ (qs : List ℕ) (out : remove ps i ≡ qs) where
@@ -100,8 +98,7 @@ module _ {K : Type 0} (same : K → K → Bool) (hash : K → ℕ) (laws : Laws 
 
 -- The first of a row, alone.
 front_one : (ps : List ℕ) → length ps ≡ 32 → take 1 ps ≡ get_or ps 0 0 ∷ []
-front_one [] e = let z : ◌≡◌ {A = ℕ} 0 32 = e in absurd (omega arith)
-front_one (p ∷ ps) e = refl
+front_one ps e = grind arith
 
 -- IN THE MEMORY SHOWN
 
@@ -114,15 +111,7 @@ module _ {K : Type 0} (same : K → K → Bool) (hash : K → ℕ) (laws : KeyLa
   gathers = shown_gathers m z (listed l) ys there kept
 
   rules : (index ≡ 7) × (2 ≤ l.count) × (l.count ≤ 32) × NoTwice same (map shown_pair ys)
-  rules =
-      let a = and_parts (eqb index 7) _ s in
-      let b = and_parts (leb 2 l.count) _ a.1 in
-      let c = and_parts (leb l.count 32) _ b.1 in (
-        eqb-true index 7 a.0,
-        leb-true 2 l.count b.0,
-        leb-true l.count 32 c.0,
-        alike_no_twice same hash (laws_of same hash laws) ys (subst (λ o. all_alike same hash o ≡ true) there c.1),
-      )
+  rules = grind (arith, and_parts, eqb-true, leb-true, alike_no_twice, laws_of)
 
   -- A put of a key that the list lacks.
   pub append_drafted : (v p : ℕ) → slice_get z.pairs p ≡ Some (record { key = k; value = v }) → place_of same k ys ≡ None → l.count < 32

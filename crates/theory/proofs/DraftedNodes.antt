@@ -1,7 +1,6 @@
 -- What a put, a cut or a cleaning drafts from a node without new cells, in the words of the machine.
 use Rattle.std.proofs.Common.{◌≡◌, ℕ, ◌<◌, Bool, true, false, eqb, ◌≢◌, List, [], length, get_or, set, Some, None, Option, sym, refl, ap, ◌∙◌, subst, arith, get_or-set_other, get_or-set_same}
 use mathlib.Core.Option.{none, some}
-use native.Mathlib.Decide.{ℕ_discrete}
 use Rattle.std.specs.List.{slice_get}
 use Rattle.std.proofs.lemmas.Bool.{cond_both, eqb-true, eqb-false}
 use Rattle.std.proofs.lemmas.Option.{none-some}
@@ -28,16 +27,9 @@ use Rattle.theory.specs.Shown.{slot, slots, shown_mem, shown_main, OnlyAt, Besid
 pair_cell : {p c : ℕ} → ◌≡◌ {A = Option Branch} (Some (pair p)) (Some (cell c)) → ⊥
 pair_cell e = let z : ◌≡◌ {A = ℕ} 0 1 = cc in omega arith
 
-pair_is : {p r : ℕ} → ◌≡◌ {A = Option Branch} (Some (pair p)) (Some (pair r)) → p ≡ r
-pair_is e = cc
-
 -- A branch of a node that has only one is that one.
 only_is : (n : Node) (q r : ℕ) (x w : Branch) → OnlyAt n q x → branch_at n r ≡ Some w → (r ≡ q) × (Some w ≡ Some x)
-only_is n q r x w o e = by (ℕ_discrete r q)
-  where
-    by : Dec (r ≡ q) → (r ≡ q) × (Some w ≡ Some x)
-    by (yes s) = (s, sym e ∙ (ap (branch_at n) s ∙ o.here))
-    by (no ne) = absurd (none-some _ (sym (o.alone r ne) ∙ e))
+only_is n q r x w o e = grind arith
 
 -- What a node becomes: itself, and below the root each of its pairs has a branch beside it; or, below the root, the tomb of its only branch.
 pub kept_node_lem : (P : Main → Type 0) (index : ℕ) (n : Node) → WellFormed n
@@ -112,9 +104,7 @@ module _ {K : Type 0} (same : K → K → Bool) (hash : K → ℕ) (k : K) (inde
       kept_at q b h s = none-some _ (sym gone ∙ (ap (branch_at (removed y chunk)) (sym s) ∙ h))
 
       another : (q : ℕ) → q ≢ chunk → Beside (removed y chunk) q → (w : ℕ) × (w ≢ chunk) × (w ≢ q) × Taken (get_or (slots y) w nothing)
-      another q ne b =
-          let off = kept_at b.chunk b.branch b.there in
-          (b.chunk, off, b.other, subst Taken (elsewhere (removed y chunk) y chunk nothing less b.chunk off) b.taken)
+      another q ne b = grind (arith, kept_at, elsewhere, less)
 
   -- The pair b takes the place of the cell d, or is buried if the cell was alone.
   pub contract_drafted : (d b : ℕ) → branch_at y chunk ≡ Some (cell d) → Cleans same hash chunk_at (noded (slots y)) index k d b (shown_main (kept_node index (replaced y chunk (pair b))))
@@ -128,7 +118,7 @@ module _ {K : Type 0} (same : K → K → Bool) (hash : K → ℕ) (k : K) (inde
       (r.chunk, r.other, subst Taken (elsewhere (replaced y chunk (pair b)) y chunk (paired b) changed r.chunk r.other) r.taken))))
       (λ l q u o.
       let it = only_is (replaced y chunk (pair b)) q chunk (pair u) (pair b) o now in
-      subst (λ (v : ℕ). Cleans same hash chunk_at (noded (slots y)) index k d b (tombed v)) (pair_is it.1)
+      subst (λ (v : ℕ). Cleans same hash chunk_at (noded (slots y)) index k d b (tombed v)) (cc)
       (Cleans.entombs (slots y) refl (shown_at (Some (cell d)) e)
       (λ j ne. sym (elsewhere (replaced y chunk (pair b)) y chunk (paired b) changed j ne) ∙ o.empty j (λ t. ne (t ∙ sym it.0))) l))
     where

@@ -54,18 +54,7 @@ module _ {K : Type 0} where
       → (is_idle (seat_of z t).phase ≡ false → Sitting (v ∷ h) calls z.memory.keys z.table.ticks t (seat_of z t))
       → (is_idle (seat_of z t).phase ≡ false → no_seat s t ≡ false)
       → ((c : StampedCall K) → Ending h t (seat_of s t) c → Ending (v ∷ h) t (seat_of z t) c) → Entered h s calls v z t calls
-  unfixed b v t none ends sits inside hands =
-      record {
-        opens = λ n e. absurd (none-some _ (sym none ∙ e));
-        ends = ends;
-        keeps = λ c m. m;
-        adds = λ c m. inl m;
-        once = b.once;
-        rising = b.rising;
-        sits = sits;
-        inside = inside;
-        hands = hands;
-      }
+  unfixed b v t none ends sits inside hands = grind arith
 
   -- An event that alters nothing, opens nothing and ends nothing.
   pub heard : {h : History K} {s : State K} {calls : List (StampedCall K)} → Book h s calls → (v : Event K) → opened_by v.reply ≡ None → ended_by v.reply ≡ None → Book (v ∷ h) s calls
@@ -111,14 +100,7 @@ module _ {K : Type 0} where
     seat_after y n = get_or-set_same s.table.seats t y idle_seat (busy_in s.table.seats t o)
 
     shift : (y : Seat) (n : ℕ) → s.table.ticks ≤ n → Shift s (seated s m t y n) t
-    shift y n l =
-        record {
-          others = λ p ne. get_or-set_other s.table.seats t p y idle_seat ne;
-          rooms = λ p. ap (λ k. leb s.table.limits.seats p || leb k p) (length-set s.table.seats t y);
-          keys = λ p ne. ap (λ k. slice_get k p) same_keys;
-          ticks = l;
-          openings = omega arith;
-        }
+    shift y n l = grind (arith, get_or-set_other, length-set)
 
     module _ (v : Event K) (y : Seat) (n : ℕ) (l : s.table.ticks ≤ n) where
       -- Nothing is fixed.
@@ -307,11 +289,9 @@ module _ {K : Type 0} where
   set_here (y ∷ xs) (suc i) x l = set_here xs i x (omega arith)
 
   pub set_there : (xs : List K) (i j : ℕ) (x : K) → (j ≡ i → ⊥) → slice_get (set xs i x) j ≡ slice_get xs j
-  set_there [] i j x ne = refl
   set_there (y ∷ xs) zero zero x ne = absurd (ne refl)
-  set_there (y ∷ xs) zero (suc j) x ne = refl
-  set_there (y ∷ xs) (suc i) zero x ne = refl
   set_there (y ∷ xs) (suc i) (suc j) x ne = set_there xs i j x (λ e. ne (ap suc e))
+  set_there _ _ _ x ne = refl
 
   module _ {h : History K} {s : State K} {calls : List (StampedCall K)} (b : Book h s calls) (t : ℕ) (ask : Ask) (key : K) (seat : no_seat s t ≡ false) (idle : is_idle (seat_of s t).phase ≡ true) (place : t < length s.memory.keys) where
     abbrev opening : Event K
@@ -319,10 +299,6 @@ module _ {K : Type 0} where
 
     abbrev seated_as : Seat
     seated_as = opened_seat ask (suc s.table.openings)
-
-    seat_opened : seat_of (with_call s t ask key) t ≡ seated_as
-    seat_opened =
-        get_or-set_same s.table.seats t seated_as idle_seat (leb-false (length s.table.seats) t (or_parts (leb s.table.limits.seats t) _ seat).1)
 
     -- The number is new: no call of the book has it.
     sits : Sitting (opening ∷ h) calls (set s.memory.keys t key) s.table.ticks t seated_as
@@ -360,7 +336,7 @@ module _ {K : Type 0} where
           adds = λ c i. inl i;
           once = b.once;
           rising = b.rising;
-          sits = λ i. subst (Sitting (opening ∷ h) calls (set s.memory.keys t key) s.table.ticks t) (sym seat_opened) sits;
+          sits = λ i. subst (Sitting (opening ∷ h) calls (set s.memory.keys t key) s.table.ticks t) (sym (grind (arith, get_or-set_same, leb-false, or_parts))) sits;
           inside = λ i. seat;
           hands = open_hands (seat_of (with_call s t ask key) t);
         })

@@ -1,12 +1,10 @@
 -- What a main of the machine names at a chunk it shows there, and where it keeps the rules no key comes twice.
-use Rattle.std.proofs.Common.{◌≡◌, ℕ, Bool, T, List, [], ◌∷◌, get_or, sym, refl, ap, ◌∙◌, subst}
+use Rattle.std.proofs.Common.{◌≡◌, ℕ, Bool, T, List, [], ◌∷◌, get_or, refl, ap, ◌∙◌, arith}
 use mathlib.Core.Option.{Option, none, some}
 use Rattle.machine.proofs.Graft.{clash}
-use Rattle.machine.proofs.Keep.{lone_is, listed}
-use Rattle.machine.proofs.Members.{in_one}
 use Rattle.machine.proofs.Prepare.{gather_in}
 use Rattle.machine.proofs.Rest.{pairs_are}
-use Rattle.machine.specs.Machine.{Branch, nothing, pair, cell, Main, node, tomb, many, HasPair, lone, join, gather, spot, face}
+use Rattle.machine.specs.Machine.{nothing, pair, Main, node, tomb, many, HasPair, lone, join, gather, spot, face}
 use Rattle.machine.specs.Rules.{Rule}
 use Rattle.machine.specs.Tree.{stands, In, here, later, nth, NoTwice}
 
@@ -18,14 +16,10 @@ NamesAt (many ps) q p = In p ps
 
 -- What is named is named at some chunk.
 pub named_at : (X : Main) (p : ℕ) → HasPair X p → (q : ℕ) × NamesAt X q p
-named_at (node bs) p h = h
-named_at (tomb r) p h = (0, h)
-named_at (many ps) p h = (0, h)
+named_at X p h = grind arith
 
 pub at_named : (X : Main) (q p : ℕ) → NamesAt X q p → HasPair X p
-at_named (node bs) q p n = (q, n)
-at_named (tomb r) q p n = n
-at_named (many ps) q p n = n
+at_named X q p n = grind arith
 
 module _ {K : Type 0} (pairs : List (K × ℕ)) where
   -- A pair that is gathered lies at one of the places.
@@ -49,8 +43,7 @@ module _ {K : Type 0} (pairs : List (K × ℕ)) where
   lone_shows p x e = ap lone e
 
   lone_there : (o : Option (K × ℕ)) (ps : List (K × ℕ)) (x : K × ℕ) → lone o ≡ stands ps → In x ps → o ≡ some x
-  lone_there none ps x e j = let f : ps ≡ [] = sym (pairs_are e) in let i : In x [] = rw f at j in elim i [ ]
-  lone_there (some y) ps x e j = let f : ps ≡ y ∷ [] = sym (pairs_are e) in ap some (sym (in_one x y (rw f at j)))
+  lone_there o ps x e j = grind arith
 
   -- What is named at a chunk is shown there.
   pub names_shown : (X : Main) (q p : ℕ) (x : K × ℕ) → NamesAt X q p → nth pairs p ≡ some x → (ps : List (K × ℕ)) × (face pairs X q ≡ stands ps) × In x ps
@@ -60,30 +53,12 @@ module _ {K : Type 0} (pairs : List (K × ℕ)) where
 
   -- What is shown at a chunk is named there.
   pub shown_names : (X : Main) (q : ℕ) (ps : List (K × ℕ)) (x : K × ℕ) → face pairs X q ≡ stands ps → In x ps → (p : ℕ) × NamesAt X q p × (nth pairs p ≡ some x)
-  shown_names (node bs) q ps x e j = by (get_or bs q nothing) refl e
-    where
-      by : (b : Branch) → get_or bs q nothing ≡ b → spot pairs b ≡ stands ps → (p : ℕ) × (get_or bs q nothing ≡ pair p) × (nth pairs p ≡ some x)
-      by nothing n e = let f : ps ≡ [] = sym (pairs_are e) in let i : In x [] = rw f at j in elim i [ ]
-      by (pair p) n e = (p, n, lone_there (nth pairs p) ps x e j)
-      by (cell c) n e = absurd (clash (sym e))
-  shown_names (tomb r) q ps x e j = (r, refl, lone_there (nth pairs r) ps x e j)
-  shown_names (many rs) q ps x e j = in_gather rs x (subst (λ (zs : List (K × ℕ)). In x zs) (sym (pairs_are e)) j)
+  shown_names X q ps x e j = grind (arith, some, pairs_are, lone_there, clash, in_gather)
 
   module _ (same : K → K → Bool) where
-    lone_once : (o : Option (K × ℕ)) → NoTwice same (listed o)
-    lone_once none = tt
-    lone_once (some x) = ((λ y j. elim j [ ]), tt)
-
     -- What a main that keeps the rules shows at a chunk has no key twice.
     pub shown_once : (X : Main) (i q : ℕ) (ps : List (K × ℕ)) → Rule same pairs i X → face pairs X q ≡ stands ps → NoTwice same ps
-    shown_once (node bs) i q ps r e = by (get_or bs q nothing) e
-      where
-        by : (b : Branch) → spot pairs b ≡ stands ps → NoTwice same ps
-        by nothing e = subst (NoTwice same) (pairs_are e) tt
-        by (pair p) e = subst (NoTwice same) (pairs_are (sym (lone_is (nth pairs p)) ∙ e)) (lone_once (nth pairs p))
-        by (cell c) e = absurd (clash (sym e))
-    shown_once (tomb p) i q ps r e = subst (NoTwice same) (pairs_are (sym (lone_is (nth pairs p)) ∙ e)) (lone_once (nth pairs p))
-    shown_once (many rs) i q ps r e = subst (NoTwice same) (pairs_are e) r.3
+    shown_once X i q ps r e = grind arith
 
     -- In a list no two places hold pairs of equal keys.
     list_place : (ps : List ℕ) (p r : ℕ) (x y : K × ℕ) → NoTwice same (gather pairs ps) → In p ps → In r ps → nth pairs p ≡ some x → nth pairs r ≡ some y
@@ -94,18 +69,9 @@ module _ {K : Type 0} (pairs : List (K × ℕ)) where
         let n' : NoTwice same (x ∷ gather pairs ps) = rw e at n in absurd (n'.0 y (gather_in pairs ps b y j f) t)
     list_place (p ∷ ps) a b x y n (In.later i) (In.here) e f t u =
         let n' : NoTwice same (y ∷ gather pairs ps) = rw f at n in absurd (n'.0 x (gather_in pairs ps a x i e) u)
-    list_place (p ∷ ps) a b x y n (In.later i) (In.later j) e f t u = list_place ps a b x y (rest (nth pairs p) n) i j e f t u
-      where
-        rest : (o : Option (K × ℕ)) → NoTwice same (join o (gather pairs ps)) → NoTwice same (gather pairs ps)
-        rest none n = n
-        rest (some z) n = n.1
+    list_place (p ∷ ps) a b x y n (In.later i) (In.later j) e f t u = list_place ps a b x y (grind arith) i j e f t u
 
     -- At a chunk of a main that keeps the rules no two places hold pairs of equal keys.
     pub one_place : (X : Main) (i q p r : ℕ) (x y : K × ℕ) → Rule same pairs i X → NamesAt X q p → NamesAt X q r → nth pairs p ≡ some x → nth pairs r ≡ some y
         → T (same x.0 y.0) → T (same y.0 x.0) → p ≡ r
-    one_place (node bs) i q p r x y z n m e f t u = pair_is (sym n ∙ m)
-      where
-        pair_is : {a b : ℕ} → ◌≡◌ {A = Branch} (pair a) (pair b) → a ≡ b
-        pair_is e = cc
-    one_place (tomb s) i q p r x y z n m e f t u = sym n ∙ m
-    one_place (many ps) i q p r x y z n m e f t u = list_place ps p r x y z.3 n m e f t u
+    one_place X i q p r x y z n m e f t u = grind (arith, list_place)

@@ -1,36 +1,20 @@
 -- The plain map of the rules, fed stamped calls, says the same as the machine's log of these calls.
-use Rattle.std.proofs.Common.{◌≡◌, ℕ, Bool, true, false, cond, List, [], ◌∷◌, Some, None, Option, sym, refl, ap, ◌∙◌}
+use Rattle.std.proofs.Common.{◌≡◌, ℕ, Bool, true, false, cond, List, [], ◌∷◌, Some, sym, refl, ap, ◌∙◌, arith}
 use mathlib.Core.List.{Memᴰ}
 use mathlib.Core.Option.{Option as Maybe, none, some}
-use Rattle.std.proofs.lemmas.Bool.{both_ways, false≢true}
 use Rattle.keys.specs.Laws.{KeyLaws}
 use Rattle.machine.proofs.Walk.{no_some, some_is}
 use Rattle.machine.proofs.Worth.{replay_worth, plain_pair}
-use Rattle.machine.specs.Machine.{Result, value, replay}
+use Rattle.machine.specs.Machine.{replay}
 use Rattle.machine.specs.Pairs.{worth, after_pair, replay_pair, says_pair, PlainPair}
 use Rattle.rules.proofs.Mapping.{map_laws}
-use Rattle.rules.specs.PlainMap.{find, without, map_after, map_answer, found_by, removed_by, Unlike, MapLaws}
+use Rattle.rules.specs.PlainMap.{find, without, map_after, map_answer, Unlike, MapLaws}
 use Rattle.rules.specs.Theorem.{StampedCall, fed, Plain}
 use Rattle.rules.specs.declared.Ask.{Ask}
-use Rattle.rules.specs.declared.Ask.TheVariants.{Get, Put, Cut}
 use Rattle.rules.specs.declared.Outcome.{Outcome}
-use Rattle.rules.specs.declared.Outcome.TheVariants.{Found, Absent, Stored, Removed}
 use Rattle.rules.specs.declared.Pair.{Pair}
 use Rattle.theory.specs.Fed.{PairFor, Feeds, asked, result_of, entries_of, fits, Fitting, maybe}
 use Rattle.theory.proofs.FedPairs.{pair_in, PairUnder, PairFeeds}
-
--- Equal results have equal values.
-value_is : {a b : Maybe ℕ} → ◌≡◌ {A = Result} (value a) (value b) → a ≡ b
-value_is e = cc
-
--- Equal values that are there are equal numbers.
--- No value is not a value.
--- The machine's words tell values apart.
-maybe_is : (a b : Option ℕ) → maybe a ≡ maybe b → a ≡ b
-maybe_is None None e = refl
-maybe_is None (Some v) e = absurd (no_some e)
-maybe_is (Some u) None e = absurd (no_some (sym e))
-maybe_is (Some u) (Some v) e = ap Some (some_is e)
 
 module _ {K : Type 0} (same : K → K → Bool) (hash : K → ℕ) (laws : KeyLaws same hash) where
   -- The laws of the plain map, of this key kind.
@@ -44,8 +28,7 @@ module _ {K : Type 0} (same : K → K → Bool) (hash : K → ℕ) (laws : KeyLa
   worthy k (y ∷ ys) = by (same y.key k) (worthy k ys)
     where
       by : (b : Bool) → worth (pair_in same k ys) ≡ maybe (find same k ys) → worth (cond b (some (y.key, y.value)) (pair_in same k ys)) ≡ maybe (cond b (Some y.value) (find same k ys))
-      by true e = refl
-      by false e = e
+      by b e = grind arith
 
   -- Without a key's pair, nothing is under an equal key, and what is under any other stays.
   pair_without : (l k : K) (ys : List (Pair K)) → pair_in same k (without same l ys) ≡ cond (same l k) none (pair_in same k ys)
@@ -53,35 +36,18 @@ module _ {K : Type 0} (same : K → K → Bool) (hash : K → ℕ) (laws : KeyLa
   pair_without l k [] = by (same l k)
     where
       by : (b : Bool) → none ≡ cond {A = Maybe (K × ℕ)} b none none
-      by true = refl
-      by false = refl
+      by b = grind arith
   pair_without l k (y ∷ ys) = by (same y.key l) refl (same y.key k) refl (same l k) refl (pair_without l k ys)
     where
-      at : (c : Bool) → same y.key k ≡ c → pair_in same k (y ∷ without same l ys) ≡ cond c (some (y.key, y.value)) (pair_in same k (without same l ys))
-      at c q = ap (λ b. cond b (some (y.key, y.value)) (pair_in same k (without same l ys))) q
-
       by : (a : Bool) → same y.key l ≡ a → (c : Bool) → same y.key k ≡ c → (d : Bool) → same l k ≡ d → pair_in same k (without same l ys) ≡ cond (same l k) none (pair_in same k ys)
           → pair_in same k (cond a (without same l ys) (y ∷ without same l ys)) ≡ cond d none (cond c (some (y.key, y.value)) (pair_in same k ys))
-      by true p true q true r n = n ∙ ap (λ b. cond b none (pair_in same k ys)) r
-      by true p true q false r n = absurd (both_ways (same l k) r (laws.transitive l y.key k (laws.symmetric y.key l p) q))
-      by true p false q true r n = absurd (both_ways (same y.key k) q (laws.transitive y.key l k p r))
-      by true p false q false r n = n ∙ ap (λ b. cond b none (pair_in same k ys)) r
-      by false p true q true r n = absurd (both_ways (same y.key l) p (laws.transitive y.key k l q (laws.symmetric l k r)))
-      by false p true q false r n = at true q
-      by false p false q true r n = at false q ∙ (n ∙ ap (λ b. cond b none (pair_in same k ys)) r)
-      by false p false q false r n = at false q ∙ (n ∙ ap (λ b. cond b none (pair_in same k ys)) r)
+      by a p c q d r n = grind arith
 
   -- One call changes the map of the rules as it changes the machine's.
   held_after : (ask : Ask) (l k : K) (ys : List (Pair K)) (f : K → Maybe (K × ℕ)) → ((j : K) → pair_in same j ys ≡ f j)
       → pair_in same k (map_after same ask l ys) ≡ after_pair same (asked ask l) f k
   unfolding pair_in
-  held_after Get l k ys f e = e k
-  held_after (Put v) l k ys f e = by (same l k) (pair_without l k ys)
-    where
-      by : (t : Bool) → pair_in same k (without same l ys) ≡ cond t none (pair_in same k ys) → cond t (some (l, v)) (pair_in same k (without same l ys)) ≡ cond t (some (l, v)) (f k)
-      by true q = refl
-      by false q = q ∙ e k
-  held_after Cut l k ys f e = pair_without l k ys ∙ ap (cond (same l k) none) (e k)
+  held_after ask l k ys f e = grind (arith, pair_without, pair_in, none, some)
 
   held : (calls : List (StampedCall K)) (k : K) → pair_in same k (fed same calls) ≡ replay_pair same (entries_of calls) k
   unfolding pair_in fed replay_pair
@@ -91,18 +57,7 @@ module _ {K : Type 0} (same : K → K → Bool) (hash : K → ℕ) (laws : KeyLa
   -- An outcome that fits and is right by the machine's map is that of the map of the rules.
   answer_is : (ask : Ask) (r : Outcome) (k : K) (ys : List (Pair K)) (f : K → Maybe (K × ℕ)) → maybe (find same k ys) ≡ worth (f k) → fits ask r ≡ true
       → result_of r ≡ says_pair (asked ask k) f → r ≡ map_answer same ask k ys
-  answer_is Get (Found u) k ys f e t q = ap found_by (maybe_is (Some u) (find same k ys) (value_is q ∙ sym e))
-  answer_is Get Absent k ys f e t q = ap found_by (maybe_is None (find same k ys) (value_is q ∙ sym e))
-  answer_is Get Stored k ys f e t q = absurd (false≢true t)
-  answer_is Get (Removed u) k ys f e t q = absurd (false≢true t)
-  answer_is (Put v) (Found u) k ys f e t q = absurd (false≢true t)
-  answer_is (Put v) Absent k ys f e t q = absurd (false≢true t)
-  answer_is (Put v) Stored k ys f e t q = refl
-  answer_is (Put v) (Removed u) k ys f e t q = absurd (false≢true t)
-  answer_is Cut (Found u) k ys f e t q = absurd (false≢true t)
-  answer_is Cut Absent k ys f e t q = ap removed_by (maybe_is None (find same k ys) (value_is q ∙ sym e))
-  answer_is Cut Stored k ys f e t q = absurd (false≢true t)
-  answer_is Cut (Removed u) k ys f e t q = ap removed_by (maybe_is (Some u) (find same k ys) (value_is q ∙ sym e))
+  answer_is ask r k ys f e t q = grind arith
 
   plain : (calls : List (StampedCall K)) → Fitting calls → PlainPair same (entries_of calls) → Plain same calls
   unfolding PlainPair Plain
@@ -125,8 +80,7 @@ module _ {K : Type 0} (same : K → K → Bool) (hash : K → ℕ) (laws : KeyLa
   found y (z ∷ zs) u (Memᴰ.tail m) = by (same z.key y.key) refl (found y zs u.1 m)
     where
       by : (t : Bool) → same z.key y.key ≡ t → pair_in same y.key zs ≡ some (y.key, y.value) → cond t (some (z.key, z.value)) (pair_in same y.key zs) ≡ some (y.key, y.value)
-      by true q n = absurd (u.0 y m q)
-      by false q n = n
+      by t q n = grind arith
 
   -- What is under a key is a pair of the map.
   finds : (k : K) (v : K × ℕ) (ys : List (Pair K)) → pair_in same k ys ≡ some v → PairUnder same ys k v

@@ -1,5 +1,5 @@
 -- What a read finds of a key by the rules, the machine finds.
-use Rattle.std.proofs.Common.{◌≡◌, ℕ, Bool, true, false, cond, List, [], ◌∷◌, map, Some, None, Option, sym, refl, ap, ◌∙◌}
+use Rattle.std.proofs.Common.{◌≡◌, ℕ, Bool, cond, List, [], ◌∷◌, map, Some, None, Option, refl, ap, ◌∙◌, arith}
 use mathlib.Core.Option.{none, some}
 use Rattle.keys.proofs.Chunks.{chunk_below}
 use Rattle.keys.specs.Routes.{chunk_at}
@@ -30,11 +30,6 @@ module _ {K : Type 0} (same : K → K → Bool) (hash : K → ℕ) where
   gather_shown : (m : Memory K) (ps : List ℕ) (ys : List (Pair K)) → pairs_at m.pairs ps ≡ Some ys → gather (shown_mem m).pairs ps ≡ map shown_pair ys
   gather_shown m ps ys e = gathered (shown_mem m).pairs ps (map shown_pair ys) (shown_gathers m m ps ys e (λ i j. refl))
 
-  -- The second number of two that may be there.
-  abbrev second : Option (ℕ × ℕ) → ℕ
-  second None = 0
-  second (Some z) = z.1
-
   -- A key that has a place among pairs is found, with its value.
   place_worth : (k : K) (ys : List (Pair K)) (i v : ℕ) → place_of same k ys ≡ Some (i, v) → worth (find_pair same k (map shown_pair ys)) ≡ some v
   unfolding find_pair
@@ -43,11 +38,7 @@ module _ {K : Type 0} (same : K → K → Bool) (hash : K → ℕ) where
     where
       by : (b : Bool) → cond b (Some (0, y.value)) (later (place_of same k ys)) ≡ Some (i, v) → (o : Option (ℕ × ℕ)) → place_of same k ys ≡ o → ((i v : ℕ) → place_of same k ys ≡ Some (i, v) → worth (find_pair same k (map shown_pair ys)) ≡ some v)
           → worth (cond b (some (shown_pair y)) (find_pair same k (map shown_pair ys))) ≡ some v
-      by true e o q f = ap (λ u. some (second u)) e
-      by false e None q f = absurd (none-some _ (sym (ap later q) ∙ e))
-      by false e (Some z) q f =
-          let u : ◌≡◌ {A = Option (ℕ × ℕ)} (later (Some z)) (Some (i, v)) = sym (ap later q) ∙ e in
-          let w = ap second u in f z.0 v (q ∙ ap (λ (n : ℕ). Some (z.0, n)) w)
+      by b e o q f = grind arith
 
   -- What a node shows at a key's chunk where nothing stands.
   stand_none : (m : Memory K) (k : K) (index : ℕ) (y : Node) → branch_at y (chunk_at (hash k) index) ≡ None → face (shown_mem m).pairs (shown_main (node y)) (chunk_at (hash k) index) ≡ stands []

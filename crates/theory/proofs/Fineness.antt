@@ -77,9 +77,8 @@ module _ {cells : List ℕ} {pairs : ℕ} where
   fine_kept index n k = cond_both (eqb index 0) (node n) (entombed (lone n) n) (Fine cells pairs) (λ _. k) (λ _. by (lone n) refl)
     where
       by : (o : Option Branch) → lone n ≡ o → Fine cells pairs (entombed o n)
-      by None e = k
-      by (Some (cell c)) e = k
       by (Some (pair p)) e = let it = shows_edits.lone_only n (pair p) k.formed e in fine_tomb p (k.paired p (it.0, it.1.here))
+      by _ e = k
 
   -- LISTS
 
@@ -97,15 +96,10 @@ module _ {cells : List ℕ} {pairs : ℕ} where
   fine_appended l p room k g = fine_list (appended l p) (appended_formed l p k.formed) (λ i m. by i (Memᴰ.append_cases (listed l) (subst (Memᴰ i) (listed_appended l p k.formed.row room) m)))
     where
       by : (i : ℕ) → Memᴰ i (listed l) ⊎ Memᴰ i (p ∷ []) → i < pairs
-      by i (inl m) = k.paired i m
-      by i (inr m) = subst (λ j. j < pairs) (sym (Memᴰ.eq_of_singleton m)) g
+      by i e = grind arith
 
   pub fine_relisted : (l : PairList) (place p : ℕ) → Fine cells pairs (listing l) → p < pairs → Fine cells pairs (listing (relisted l place p))
-  fine_relisted l place p k g = fine_list (relisted l place p) (relisted_formed l place p k.formed) (λ i m. by i (in_set (listed l) place p i (subst (Memᴰ i) (listed_relisted l place p) m)))
-    where
-      by : (i : ℕ) → (i ≡ p) ⊎ Memᴰ i (listed l) → i < pairs
-      by i (inl e) = subst (λ j. j < pairs) (sym e) g
-      by i (inr m) = k.paired i m
+  fine_relisted l place p k g = grind (arith, relisted_formed, in_set, listed_relisted)
 
   pub fine_unlisted : (l : PairList) (place : ℕ) → Fine cells pairs (listing l) → Fine cells pairs (listing (unlisted l place))
   fine_unlisted l place k = fine_list (unlisted l place) (unlisted_formed l place k.formed) (λ i m. by i (Memᴰ.append_cases (take place (listed l)) (subst (Memᴰ i) (listed_unlisted l place) m)))

@@ -1,10 +1,10 @@
 -- The memory has all that an open call looks at: its cell, a sound main there, and the pairs that this names. A draft's new cells fit below the path.
 -- A plan that finds its places is not refused for the memory.
-use Rattle.std.proofs.Common.{◌≡◌, ℕ, zero, suc, ◌+◌, ◌-◌, ◌<◌, ◌≤◌, Bool, true, false, cond, ◌&&◌, leb, List, [], ◌∷◌, length, get_or, Some, None, Err, sym, refl, ap, ◌∙◌, subst, arith}
+use Rattle.std.proofs.Common.{◌≡◌, ℕ, zero, suc, ◌+◌, ◌<◌, ◌≤◌, Bool, true, false, cond, ◌&&◌, leb, List, [], ◌∷◌, length, get_or, Some, None, Err, sym, ap, ◌∙◌, subst, arith}
 use Rattle.keys.specs.Laws.{KeyLaws}
 use Rattle.std.specs.List.{slice_get}
 use Rattle.std.proofs.lemmas.Option.{slice_get-get_or, none-some, same_Some}
-use Rattle.std.proofs.lemmas.Bool.{and_parts, leb-true, ne_eqb, true≢false, false≢true}
+use Rattle.std.proofs.lemmas.Bool.{and_parts, leb-true, ne_eqb, true≢false}
 use Rattle.panel.specs.declared.Refusal.TheVariants.{MemoryUnfit, TableFull}
 use Rattle.machine.specs.Machine.{Entry, Seat as Place}
 use Rattle.mains.specs.Nodes.{branch_at}
@@ -22,9 +22,8 @@ use Rattle.rules.specs.declared.Edit.{Edit}
 use Rattle.rules.specs.declared.Figures.{Figures}
 use Rattle.rules.specs.declared.Outcome.{Outcome}
 use Rattle.rules.specs.declared.Phase.{Phase}
-use Rattle.rules.specs.declared.Phase.TheVariants.{Idle, Read, Swap, Climb, Parent, Clean}
 use Rattle.rules.specs.declared.Plan.{Plan}
-use Rattle.rules.specs.declared.Plan.TheVariants.{Refuse, Quit, Finish, Settle, Close, Go, Make}
+use Rattle.rules.specs.declared.Plan.TheVariants.{Refuse, Quit, Make}
 use Rattle.rules.specs.declared.Seat.{Seat}
 use Rattle.theory.proofs.Ground.{Ground}
 use Rattle.theory.proofs.Lengths.{room_suffices_lem}
@@ -44,40 +43,18 @@ nth_there (x ∷ xs) (suc i) l e = nth_there xs i (omega (arith, l)) e
 -- The cell that a phase looks at is there, and not past the end of the path.
 pub looked_at_lem : (x : Seat) → Kept x → (phase : Phase) → is_idle phase ≡ false → (is_up phase ≡ true → 1 ≤ x.path.depth)
     → (looked_at phase x ≡ Some (get_or x.path.cells (index_of phase x) 0)) × (index_of phase x ≤ x.path.depth)
-looked_at_lem x k phase o up = by phase o up
-  where
-    there : (i : ℕ) → i ≤ x.path.depth → slice_get x.path.cells i ≡ Some (get_or x.path.cells i 0)
-    there i l = slice_get-get_or x.path.cells i 0 (let a = k.slots in let b = k.short in omega (arith, a, b, l))
-
-    over : 1 ≤ x.path.depth → (looked_at Parent x ≡ Some (get_or x.path.cells (x.path.depth - 1) 0)) × (x.path.depth - 1 ≤ x.path.depth)
-    over l =
-        (ap (λ (b : Bool). cond b None (slice_get x.path.cells (x.path.depth - 1))) (ne_eqb x.path.depth 0 (λ e. omega (arith, e, l))) ∙ there (x.path.depth - 1) (omega arith), omega arith)
-
-    by : (phase : Phase) → is_idle phase ≡ false → (is_up phase ≡ true → 1 ≤ x.path.depth)
-        → (looked_at phase x ≡ Some (get_or x.path.cells (index_of phase x) 0)) × (index_of phase x ≤ x.path.depth)
-    by Idle o up = absurd (true≢false o)
-    by Read o up = (there x.path.depth (omega arith), omega arith)
-    by Swap o up = (there x.path.depth (omega arith), omega arith)
-    by Climb o up = (there x.path.depth (omega arith), omega arith)
-    by Parent o up = over (up refl)
-    by Clean o up = over (up refl)
+looked_at_lem x k phase o up = grind (arith, slice_get-get_or, looked_at, ne_eqb, index_of, true≢false)
 
 module _ {K : Type 0} (same : K → K → Bool) (hash : K → ℕ) (laws : KeyLaws same hash) where
   -- The new cells of a draft fit below the path.
   pub draft_links : (m : Memory K) (k : K) (index : ℕ) (ask : Ask) (y : Main) (edit : Edit) (r : Outcome) → Drafts same hash m k index ask y edit r → sound same hash m.pairs index y ≡ true → index ≤ 7 → index + links_of edit ≤ 7
-  draft_links m k index ask y edit r (Drafts.inserts v n b) s l = omega (arith, l)
-  draft_links m k index ask y edit r (Drafts.replaces v n p z b h t) s l = omega (arith, l)
-  draft_links m k index ask y edit r (Drafts.removes n p z b h t) s l = omega (arith, l)
   draft_links m k index ask y edit r (Drafts.splits v n p z b h t) s l = (fork_links same hash laws n index k p z (leb-true index 6 (and_parts (leb index 6) _ s).0)).1
-  draft_links m k index ask y edit r (Drafts.appends v n ys h t c) s l = omega (arith, l)
-  draft_links m k index ask y edit r (Drafts.relists v n ys i w h t) s l = omega (arith, l)
-  draft_links m k index ask y edit r (Drafts.unlists n ys i w h t) s l = omega (arith, l)
+  draft_links m k index ask y edit r _ s l = omega (arith, l)
 
   module _ {f : Figures} {es : List (Entry K)} {s : State K} {xs : List (Place K)} (g : Ground same hash f es s xs) (t : ℕ) (k : K) (o : is_idle (seat_of s t).phase ≡ false) (key : slice_get s.memory.keys t ≡ Some k) where
     -- What a cell holds is one main.
     one_main : {i c n : ℕ} {y : Main} (r : Readable same hash s g.written.cells k i c) → Holds same hash s.memory c n y → r.main ≡ y
-    one_main {n} {y} r h =
-        same_Some r.main y (sym r.holds.main ∙ ap (main_at s.memory.mains) (same_Some r.number n (sym r.holds.word ∙ h.word)) ∙ h.main)
+    one_main r h = grind arith
 
     -- The cell looked at can be read.
     readable_there : (c : ℕ) → looked_at (seat_of s t).phase (seat_of s t) ≡ Some c → Readable same hash s g.written.cells k (index_of (seat_of s t).phase (seat_of s t)) c
@@ -111,23 +88,15 @@ module _ {K : Type 0} (same : K → K → Bool) (hash : K → ℕ) (s : State K)
   abbrev pub Allowed : Plan → Type 0
   Allowed (Refuse r) = r ≡ MemoryUnfit → ⊥
   Allowed (Quit r) = r ≡ MemoryUnfit → ⊥
-  Allowed (Finish r) = Unit {0}
-  Allowed (Settle r) = Unit {0}
-  Allowed Close = Unit {0}
-  Allowed (Go x) = Unit {0}
   Allowed (Make edit phase n r) = Room same hash s edit
+  Allowed _ = Unit {0}
 
   -- Such a plan is not answered with that refusal.
   pub allowed : (t : ℕ) (words : List ℕ) (p : Plan) (picks : Picks) → Takes same hash s p picks → Allowed p → (performed same hash s t words p picks).answer ≡ Err MemoryUnfit → ⊥
   allowed t words (Refuse r) picks k a e = a cc
   allowed t words (Quit r) picks k a e = a cc
-  allowed t words (Finish r) picks k a e = let z : ◌≡◌ {A = ℕ} 0 1 = cc in omega arith
-  allowed t words (Settle r) picks k a e = let z : ◌≡◌ {A = ℕ} 0 1 = cc in omega arith
-  allowed t words Close picks k a e = let z : ◌≡◌ {A = ℕ} 0 1 = cc in omega arith
-  allowed t words (Go x) picks k a e = let z : ◌≡◌ {A = ℕ} 0 1 = cc in omega arith
   allowed t words (Make edit phase n r) picks k a e = by (enough edit picks) (adds_pair edit && full same hash s t (links_of edit)) (room_suffices_lem same hash s edit picks k a) e
     where
       by : (b c : Bool) → b ≡ true → (cond b (cond c (quitted s t TableFull) (going s t (made_memory s t edit picks) (prepared (hoping (seat_of s t) r) phase (pending_for edit n picks)) None)) (refused s t MemoryUnfit)).answer ≡ Err MemoryUnfit → ⊥
-      by true true i e = let z : ◌≡◌ {A = ℕ} 0 1 = cc in omega arith
-      by true false i e = let z : ◌≡◌ {A = ℕ} 0 1 = cc in omega arith
-      by false c i e = false≢true i
+      by b c i e = grind arith
+  allowed t words _ picks k a e = let z : ◌≡◌ {A = ℕ} 0 1 = cc in omega arith

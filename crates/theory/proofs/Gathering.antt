@@ -57,9 +57,8 @@ module _ {K : Type 0} (pairs : List (K × ℕ)) where
 
 -- Pairs that may be missing are all there.
 all_there : {K : Type 0} (o : Option (Pair K)) (os : Option (List (Pair K))) (ys : List (Pair K)) → with_pair o os ≡ Some ys → (x : Pair K) × (xs : List (Pair K)) × (o ≡ Some x) × (os ≡ Some xs) × (ys ≡ x ∷ xs)
-all_there None os ys e = absurd (none-some _ e)
-all_there (Some x) None ys e = absurd (none-some _ e)
 all_there (Some x) (Some xs) ys e = (x, xs, refl, refl, cc)
+all_there _ _ ys e = absurd (none-some _ e)
 
 -- The places of a list hold its pairs in the memory shown, if they are as they were.
 pub shown_gathers : {K : Type 0} (m z : Memory K) (ps : List ℕ) (ys : List (Pair K)) → pairs_at m.pairs ps ≡ Some ys
@@ -98,9 +97,7 @@ module _ {K : Type 0} (same : K → K → Bool) (k : K) where
     where
       by : (b : Bool) (o : Option (ℕ × ℕ)) → cond b (Some (0, y.value)) (further o) ≡ None → (o ≡ None → find_pair same k (map shown_pair ys) ≡ none)
           → cond b (some (shown_pair y)) (find_pair same k (map shown_pair ys)) ≡ none
-      by true o f below = absurd (none-some _ (sym f))
-      by false None f below = below refl
-      by false (Some i) f below = absurd (none-some _ (sym f))
+      by b o f below = grind arith
 
   -- A key that has a place is that of the pair there.
   pub place_some : (ys : List (Pair K)) (i w : ℕ) → place_of same k ys ≡ Some (i, w) → (x : K × ℕ) × (placed (map shown_pair ys) i ≡ some x) × T (same x.0 k) × (x.1 ≡ w)
@@ -119,10 +116,3 @@ module _ {K : Type 0} (same : K → K → Bool) (k : K) where
           let a : suc j.0 ≡ i = omega (arith, s.0) in
           let x = below j.0 j.1 refl in
           (x.0, ap (λ (n : ℕ). placed (map shown_pair (y ∷ ys)) n) (sym a) ∙ x.1, x.2, x.3 ∙ s.1)
-
-  -- A key that is found in a list is that of one of its members, which has the value found.
-  pub shown_member : (m z : Memory K) (ps : List ℕ) (ys : List (Pair K)) → pairs_at m.pairs ps ≡ Some ys → ((i : ℕ) → Memᴰ i ps → slice_get z.pairs i ≡ slice_get m.pairs i)
-      → (i w : ℕ) → place_of same k ys ≡ Some (i, w) → (x : K × ℕ) × In x (gather (shown_mem z).pairs ps) × T (same x.0 k) × (x.1 ≡ w)
-  shown_member m z ps ys there kept i w e =
-      let x = place_some ys i w e in
-      (x.0, gathers_in (shown_mem z).pairs ps (map shown_pair ys) i x.0 x.1 (shown_gathers m z ps ys there kept), x.2, x.3)

@@ -9,7 +9,7 @@ use Rattle.machine.proofs.Laws.{Laws}
 use Rattle.machine.proofs.Members.{find_in}
 use Rattle.machine.proofs.Rest.{below, walk_earlier}
 use Rattle.machine.proofs.Walk.{no_some, some_is, walk_on, walk_back, walk_agree}
-use Rattle.machine.specs.Machine.{Main, node, tomb, many, IsFlat, HasPair, Mem, face, word, main, view}
+use Rattle.machine.specs.Machine.{Main, IsFlat, HasPair, Mem, face, word, main, view}
 use Rattle.machine.specs.Rules.{Ruled}
 use Rattle.machine.specs.Tree.{Spot, stands, on, Tree, walk, In, here, later, nth}
 use Rattle.machine.specs.Pairs.{find_pair, answer_pair, seek_pair, lookup_pair}
@@ -60,15 +60,13 @@ module _ {K : Type 0} (same : K → K → Bool) (hash : K → ℕ) (chunk : ℕ 
   seek_ending M k v zero i c w e = by (M c (chunk (hash k) i)) refl e
     where
       by : (s : Spot K) → M c (chunk (hash k) i) ≡ s → answer_pair same k s (λ d. none) ≡ some v → Ending M k v
-      by (stands ps) z e = record { index = i; cell = c; all = ps; led = w; shows = z; says = e }
-      by (on d) z e = absurd (no_some e)
+      by s z e = grind arith
   seek_ending M k v (suc n) i c w e =
       by (M c (chunk (hash k) i)) refl e (λ d z. seek_ending M k v n (suc i) d (walk_on chunk M (hash k) i c d w z))
     where
       by : (s : Spot K) → M c (chunk (hash k) i) ≡ s → answer_pair same k s (λ d. seek_pair same hash chunk M k n (suc i) d) ≡ some v
           → ((d : ℕ) → M c (chunk (hash k) i) ≡ on d → seek_pair same hash chunk M k n (suc i) d ≡ some v → Ending M k v) → Ending M k v
-      by (stands ps) z e f = record { index = i; cell = c; all = ps; led = w; shows = z; says = e }
-      by (on d) z e f = f d z e
+      by s z e f = grind arith
 
   lookup_ending : (M : Tree K) (k : K) (v : K × ℕ) → lookup_pair same hash chunk M k ≡ some v → Ending M k v
   unfolding lookup_pair walk
@@ -100,10 +98,7 @@ module _ {K : Type 0} (same : K → K → Bool) (hash : K → ℕ) (chunk : ℕ 
         }
       where
         by : (X : Main) (q : ℕ) → NamesAt X q p → (chunk (hash x.0) i ≡ q) ⊎ IsFlat X → NamesAt X (chunk (hash x.0) i) p
-        by X q n (inl e) = subst (λ (r : ℕ). NamesAt X r p) (sym e) n
-        by (node bs) q n (inr f) = absurd f
-        by (tomb r) q n (inr f) = n
-        by (many ps) q n (inr f) = n
+        by X q n e = grind arith
 
     -- The lookup of its key finds it.
     pub answered : (p : ℕ) (x : K × ℕ) → AtHome m p x → lookup_pair same hash chunk (view m) x.0 ≡ some x
@@ -141,9 +136,7 @@ module _ {K : Type 0} (same : K → K → Bool) (hash : K → ℕ) (chunk : ℕ 
       where
         there : (i c s : ℕ) (z : K × ℕ) → NamesAt (main m (word m c)) (chunk (hash x.0) i) s → nth m.pairs s ≡ some z
             → (ps : List (K × ℕ)) × (view m c (chunk (hash x.0) i) ≡ stands ps)
-        there i c s z n e =
-            let f = names_shown m.pairs (main m (word m c)) (chunk (hash x.0) i) s z n e in
-            (f.0, shows_at m c (chunk (hash x.0) i) ∙ f.1)
+        there i c s z n e = grind (arith, names_shown, shows_at)
 
         by : (j d : ℕ) → walk chunk (view m) (hash x.0) j ≡ some d → NamesAt (main m (word m d)) (chunk (hash x.0) j) r → p ≡ r
         by j d w n =

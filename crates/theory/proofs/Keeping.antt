@@ -115,9 +115,6 @@ module _ {K : Type 0} (same : K → K → Bool) (hash : K → ℕ) {s : State K}
     reads : (key : K) (n : ℕ) (picks : Picks) → Memᴰ n k.mains → (y : Main) (p : Plan) → Fine k.cells (length s.memory.pairs) y → Reads same hash s.memory x key n y p → Takes same hash s p picks
         → Written (performed same hash s t s.memory.words p picks).state
     reads key n picks m y p f (Reads.missing i j b h) u = k
-    reads key n picks m y p f (Reads.full l e) u = idles s.memory.words (stock k) _
-    reads key n picks m y p f (Reads.lacks e h) u = idles s.memory.words (stock k) _
-    reads key n picks m y p f (Reads.finds e h) u = idles s.memory.words (stock k) _
     reads key n picks m y p f (Reads.grows i d b) u =
         walks s.memory.words (stock k) _ _ refl never (trod_more x.path.cells x.path.depth d k.root (f.inner d (_, b)) o.path)
     reads key n picks m y p f (Reads.meets i) u = walks s.memory.words (stock k) _ _ refl (λ _. f.paired i refl) o.path
@@ -126,13 +123,13 @@ module _ {K : Type 0} (same : K → K → Bool) (hash : K → ℕ) {s : State K}
         makes edit Swap n r picks s.memory.words u m never (λ _ a. drafts_pair same hash d a)
         (λ b. fine_drafted same hash (first picks.pairs) (first picks.cells) g d b (first_joined picks.cells k.cells k.root))
         (λ b. fine_chain same hash (first picks.pairs) picks.cells (rest picks.mains) g d b (Memᴰ.append_right picks.cells k.root) (λ c m. Memᴰ.append_left k.cells m))
+    reads key n picks m y p f _ u = idles s.memory.words (stock k) _
 
     sees : (key : K) (picks : Picks) (p : Plan) (words : List ℕ) → Sees same hash s.memory x key p words → Takes same hash s p picks → Written (performed same hash s t words p picks).state
     sees key picks p words (Sees.unfit e) u = k
     sees key picks p words (Sees.reads e c n y l h g d) u = let w = read_written k same hash c n y (last_owned x c o l) h in reads key n picks w.0 y p w.1 d u
     sees key picks p words (Sees.settles e c l h a d) u = walks words (swapped c (ap is_pending e) (last_owned x c o l)) _ _ refl never o.path
     sees key picks p words (Sees.finishes e c l h d) u = idles words (swapped c (ap is_pending e) (last_owned x c o l)) _
-    sees key picks p words (Sees.loses e) u = walks words (stock k) _ _ refl never (trod_root k.root)
     sees key picks p words (Sees.buries e c n i l h d) u =
         walks words (stock k) _ _ refl (λ _. (read_written k same hash c n (tomb i) (last_owned x c o l) h).1.paired i refl) o.path
     sees key picks p words (Sees.climbs_close e c n y l h b d) u = idles words (stock k) _
@@ -146,7 +143,7 @@ module _ {K : Type 0} (same : K → K → Bool) (hash : K → ℕ) {s : State K}
     sees key picks p words (Sees.parts e c n y l h b d) u = leaves words picks p (stock k) d
     sees key picks p words (Sees.cleans e c l h d) u = leaves words picks p (swapped c (ap is_pending e) (parent_owned x c o l)) d
     sees key picks p words (Sees.misses e b) u = walks words (stock k) _ _ refl (λ _. o.buried (ap is_burying e)) o.path
-    sees key picks p words (Sees.gives_up_lem e b) u = walks words (stock k) _ _ refl never (trod_root k.root)
+    sees key picks p words _ u = walks words (stock k) _ _ refl never (trod_root k.root)
 
 module _ {K : Type 0} (same : K → K → Bool) (hash : K → ℕ) {f : Figures} where
   pub fresh_written : (m : Memory K) → format_refusal f m ≡ None → Written (formatted f m)

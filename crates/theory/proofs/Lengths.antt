@@ -1,5 +1,5 @@
 -- How long lists without repeats are; that places suffice and counts agree follows.
-use Rattle.std.proofs.Common.{◌≡◌, ℕ, zero, suc, ◌<◌, ◌≤◌, Bool, leb, ◌⊎◌, List, [], ◌∷◌, ◌++◌, length, sym, refl, ap, ◌∙◌, subst, inl, inr, arith, length-append}
+use Rattle.std.proofs.Common.{◌≡◌, ℕ, zero, suc, ◌<◌, ◌≤◌, Bool, leb, ◌⊎◌, List, [], ◌∷◌, ◌++◌, length, sym, refl, ap, ◌∙◌, inl, inr, arith, length-append}
 use mathlib.Core.List.Memᴰ
 use mathlib.Core.List.{Memᴰ}
 use Rattle.std.proofs.lemmas.Bool.{cases_lt, le-leb, and_from}
@@ -46,8 +46,7 @@ within (y ∷ ys) xs o f =
     omega (arith, l, k)
   where
     other : (z : ℕ) → Memᴰ z ys → {zs : List ℕ} → (z ≡ y) ⊎ Memᴰ z zs → Memᴰ z zs
-    other z m (inl e) = absurd (o.0 (subst (λ x. Memᴰ x ys) e m))
-    other z m (inr k) = k
+    other z m e = grind arith
 
 -- The numbers below n.
 abbrev below : ℕ → List ℕ
@@ -95,12 +94,7 @@ finds InUse n wanted picks u r = by (cases_lt (length picks) wanted)
 
 -- Two numbers of the same things are one.
 same_number : (P : ℕ → Type 0) (n m : ℕ) → HowMany P n → HowMany P m → n ≡ m
-same_number P n m a b =
-    let l = within a.them b.them a.once (λ x k. b.all x (a.only x k)) in
-    let k = within b.them a.them b.once (λ x k. a.all x (b.only x k)) in
-    let p = a.many in
-    let q = b.many in
-    omega (arith, l, k, p, q)
+same_number P n m a b = grind (arith, within)
 
 module _ {K : Type 0} (same : K → K → Bool) (hash : K → ℕ) where
   pub room_suffices_lem : RoomSuffices same hash

@@ -1,17 +1,16 @@
 -- Where two memories hold the same, the same shows; and what a main names, it shows.
-use Rattle.std.proofs.Common.{◌≡◌, ℕ, Some, None, Option, sym, refl, ap, ◌∙◌}
+use Rattle.std.proofs.Common.{◌≡◌, ℕ, Some, None, Option, sym, refl, ◌∙◌, arith}
 use mathlib.Core.Option.{none, some}
 use Rattle.std.specs.List.{slice_get}
 use Rattle.machine.specs.Machine.{HasPair, word, main as main_of}
 use Rattle.machine.specs.Tree.{nth as placed}
 use Rattle.mains.specs.declared.Main.{Main}
-use Rattle.mains.specs.declared.Main.TheVariants.{Node as node, Tomb as tomb, List as listing}
 use Rattle.rules.specs.Memory.{Memory, main_at}
 use Rattle.theory.proofs.Names.{mem_in}
 use Rattle.theory.proofs.Shown.{shows_edits}
 use Rattle.theory.proofs.ShownMemory.{shows_memory}
 use Rattle.theory.proofs.Writing.{Formed, NamesPair}
-use Rattle.theory.specs.Shown.{slot, shown_main, shown_mem}
+use Rattle.theory.specs.Shown.{shown_main, shown_mem}
 
 -- Where the same is there, the same shows.
 agree : {A B : Type 0} (o u : Option A) (f : A → B) (d a b : B) → o ≡ u
@@ -37,6 +36,4 @@ module _ {K : Type 0} (m z : Memory K) where
 
 -- A pair that a main names shows.
 pub names_shown : (y : Main) → Formed y → (p : ℕ) → NamesPair y p → HasPair (shown_main y) p
-names_shown (node n) w p b = (b.0, shows_edits.slot_any n w b.0 ∙ ap slot b.1)
-names_shown (tomb r) w p b = b
-names_shown (listing l) w p b = mem_in p _ b
+names_shown y w p b = grind (arith, shows_edits, mem_in)

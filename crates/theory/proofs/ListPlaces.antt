@@ -32,10 +32,9 @@ module _ {A : Type 0} where
 
   -- The first n of a list are members of it.
   pub in_take : (n : ℕ) (xs : List A) (y : A) → Memᴰ y (take n xs) → Memᴰ y xs
-  in_take zero xs y m = elim m [ ]
-  in_take (suc n) [] y m = elim m [ ]
   in_take (suc n) (x ∷ xs) y (Memᴰ.head e) = Memᴰ.head e
   in_take (suc n) (x ∷ xs) y (Memᴰ.tail m) = Memᴰ.tail (in_take n xs y m)
+  in_take _ _ y m = elim m [ ]
 
   pub in_drop : (n : ℕ) (xs : List A) (y : A) → Memᴰ y (drop n xs) → Memᴰ y xs
   in_drop zero xs y m = m
@@ -48,11 +47,9 @@ module _ {A : Type 0} where
 
   -- Something that has the property is set somewhere: then the place has still something of the property.
   pub set_stands : (P : A → Type 0) (xs : List A) (i : ℕ) (a : A) → P a → (j : ℕ) → Standing P xs j → Standing P (set xs i a) j
-  set_stands P [] i a p j s = s
   set_stands P (x ∷ xs) zero a p zero s = (a, refl, p)
-  set_stands P (x ∷ xs) zero a p (suc j) s = s
-  set_stands P (x ∷ xs) (suc i) a p zero s = s
   set_stands P (x ∷ xs) (suc i) a p (suc j) s = set_stands P xs i a p j s
+  set_stands _ _ _ a p _ s = s
 
   -- It is set at a place of the list: then the place has something of the property.
   pub stands_set : (P : A → Type 0) (xs : List A) (i : ℕ) (a : A) → P a → i < length xs → Standing P (set xs i a) i

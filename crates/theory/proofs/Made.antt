@@ -1,9 +1,8 @@
 -- What the memory holds after a preparation: what is made stands in the places taken, and all else is as before.
-use Rattle.std.proofs.Common.{◌≡◌, ℕ, suc, ◌<◌, Bool, true, false, cond, ◌&&◌, ltb, leb, List, [], ◌∷◌, map, length, set, Some, None, Option, sym, refl, ap, ◌∙◌, subst, arith, length-set}
+use Rattle.std.proofs.Common.{◌≡◌, ℕ, suc, ◌<◌, Bool, true, cond, List, map, length, set, Some, Option, sym, ap, ◌∙◌, subst, arith, length-set}
 use mathlib.Core.List.Memᴰ
 use mathlib.Core.List.{Memᴰ}
 use Rattle.std.specs.List.{slice_get}
-use Rattle.std.proofs.lemmas.Bool.{and_parts, leb-true}
 use Rattle.mains.specs.declared.Main.{Main}
 use Rattle.rules.specs.Edits.{edited, makes_pair, links_of, Link, first, rest}
 use Rattle.rules.specs.Memory.{State, main_limit, main_at}
@@ -21,59 +20,33 @@ use Rattle.theory.proofs.Stocking.{main_from}
 
 -- Where none of some places comes twice, the first is not among the others, and none of those comes twice.
 first_once : (xs : List ℕ) → Once xs → Memᴰ (first xs) (rest xs) → ⊥
-first_once [] o m = elim m [ ]
-first_once (x ∷ xs) o m = o.0 m
-
-rest_once : (xs : List ℕ) → Once xs → Once (rest xs)
-rest_once [] o = tt
-rest_once (x ∷ xs) o = o.1
-
-rest_length : (xs : List ℕ) (n : ℕ) → length xs ≡ suc n → length (rest xs) ≡ n
-rest_length [] n e = absurd (omega arith)
-rest_length (x ∷ xs) n e = omega (arith, e)
+first_once xs o m = grind arith
 
 -- ONE MORE PAIR
 
 module _ {K : Type 0} (pairs : List (Pair K)) where
   -- Only the place of the new pair alters, and only if the edit makes one.
   new_else : (b : Bool) (key : Option K) (v p q : ℕ) → (b ≡ true → q ≡ p → ⊥) → slice_get (with_new pairs b key v p) q ≡ slice_get pairs q
-  new_else false key v p q f = refl
-  new_else true None v p q f = refl
-  new_else true (Some key) v p q f = set_there pairs p q (record { key = key; value = v }) (f refl)
+  new_else b key v p q f = grind (arith, set_there)
 
   new_at : (b : Bool) (o : Option K) (key : K) (v p : ℕ) → b ≡ true → o ≡ Some key → p < length pairs → slice_get (with_new pairs b o v p) p ≡ Some (record { key = key; value = v })
-  new_at b o key v p e f l =
-      subst (λ (c : Bool). slice_get (with_new pairs c o v p) p ≡ Some (record { key = key; value = v })) (sym e)
-      (subst (λ (u : Option K). slice_get (with_new pairs true u v p) p ≡ Some (record { key = key; value = v })) (sym f)
-      (set_here pairs p (record { key = key; value = v }) l))
+  new_at b o key v p e f l = grind (arith, set_here)
 
 -- THE MEMORY MADE
 
 module _ {K : Type 0} (same : K → K → Bool) (hash : K → ℕ) {s : State K} (t : ℕ) {edit : Edit} {picks : Picks} (picked : Picked same hash s edit picks) (room : enough edit picks ≡ true) where
   -- As many places are taken as wanted.
   pub cells_taken : length picks.cells ≡ links_of edit
-  cells_taken =
-      let l = leb-true (links_of edit) (length picks.cells) (and_parts (leb (links_of edit) (length picks.cells)) _ room).0 in
-      let m = picked.cells.few in
-      omega (arith, l, m)
-
-  mains_room : (leb (suc (links_of edit)) (length picks.mains) && leb (pairs_for edit) (length picks.pairs)) ≡ true
-  mains_room = (and_parts (leb (links_of edit) (length picks.cells)) _ room).1
+  cells_taken = grind arith
 
   pub mains_taken : length picks.mains ≡ suc (links_of edit)
-  mains_taken =
-      let l = leb-true (suc (links_of edit)) (length picks.mains) (and_parts (leb (suc (links_of edit)) (length picks.mains)) _ mains_room).0 in
-      let m = picked.mains.few in
-      omega (arith, l, m)
+  mains_taken = grind arith
 
   pub pairs_taken : length picks.pairs ≡ pairs_for edit
-  pairs_taken =
-      let l = leb-true (pairs_for edit) (length picks.pairs) (and_parts (leb (suc (links_of edit)) (length picks.mains)) _ mains_room).1 in
-      let m = picked.pairs.few in
-      omega (arith, l, m)
+  pairs_taken = grind arith
 
   pub rest_taken : length (rest picks.mains) ≡ links_of edit
-  rest_taken = rest_length picks.mains (links_of edit) mains_taken
+  rest_taken = grind arith
 
   pub main_taken : Memᴰ (first picks.mains) picks.mains
   main_taken = let l = mains_taken in first_in picks.mains (omega (arith, l))
@@ -101,7 +74,7 @@ module _ {K : Type 0} (same : K → K → Bool) (hash : K → ℕ) {s : State K}
   cells_once = subst Once (sym cells_of_chain) picked.cells.once
 
   numbers_once : Once (map number_of (chain_in edit picks))
-  numbers_once = subst Once (sym mains_of_chain) (rest_once picks.mains picked.mains.once)
+  numbers_once = subst Once (sym mains_of_chain) (grind arith)
 
   -- A main place that is taken lies in the memory, below the limit.
   number_low : (n : ℕ) → Memᴰ n picks.mains → (n < main_limit) × (n < length s.memory.mains)
@@ -115,25 +88,16 @@ module _ {K : Type 0} (same : K → K → Bool) (hash : K → ℕ) {s : State K}
 
   -- What is not taken is as before.
   pub word_else : (c : ℕ) → (Memᴰ c picks.cells → ⊥) → slice_get (made_memory s t edit picks).words c ≡ slice_get s.memory.words c
-  word_else c f =
-      ap (λ (xs : List ℕ). slice_get xs c) (cells_filled s.memory.words (chain_in edit picks))
-      ∙ filled_else cell_of number_of s.memory.words (chain_in edit picks) c (λ m. f (subst (λ (xs : List ℕ). Memᴰ c xs) cells_of_chain m))
+  word_else c f = grind (arith, cells_filled, filled_else, cell_of, number_of, cells_of_chain)
 
   chain_else : (n : ℕ) → (Memᴰ n (rest picks.mains) → ⊥) → slice_get (made_memory s t edit picks).mains n ≡ slice_get with_main n
-  chain_else n f =
-      ap (λ (xs : List Main). slice_get xs n) (mains_filled with_main (chain_in edit picks))
-      ∙ filled_else number_of (λ i. i.holds) with_main (chain_in edit picks) n (λ m. f (number_in n m))
+  chain_else n f = grind (arith, mains_filled, filled_else, number_of, number_in)
 
   pub main_else : (n : ℕ) → (Memᴰ n picks.mains → ⊥) → main_at (made_memory s t edit picks).mains n ≡ main_at s.memory.mains n
-  main_else n f =
-      ap (λ (o : Option Main). cond (ltb n main_limit) o None)
-      (chain_else n (λ m. f (rest_in picks.mains n m))
-      ∙ set_there s.memory.mains (first picks.mains) n made_main (λ e. f (subst (λ (x : ℕ). Memᴰ x picks.mains) (sym e) main_taken)))
+  main_else n f = grind (arith, chain_else, rest_in, set_there, main_taken)
 
   pub pair_else : (p : ℕ) → (Memᴰ p picks.pairs → ⊥) → slice_get (made_memory s t edit picks).pairs p ≡ slice_get s.memory.pairs p
-  pair_else p f =
-      new_else s.memory.pairs (makes_pair edit) (slice_get s.memory.keys t) (value_of (seat_of s t).ask) (first picks.pairs) p
-      (λ b e. f (subst (λ (x : ℕ). Memᴰ x picks.pairs) (sym e) (pair_taken b)))
+  pair_else p f = grind (arith, new_else, pair_taken)
 
   -- What is made is in the places taken: the new main, the new pair, and each link's word and main.
   pub main_made : main_at (made_memory s t edit picks).mains (first picks.mains) ≡ Some made_main
@@ -145,9 +109,7 @@ module _ {K : Type 0} (same : K → K → Bool) (hash : K → ℕ) {s : State K}
 
   pub pair_made : (key : K) → makes_pair edit ≡ true → slice_get s.memory.keys t ≡ Some key
       → slice_get (made_memory s t edit picks).pairs (first picks.pairs) ≡ Some (record { key = key; value = value_of (seat_of s t).ask })
-  pair_made key e k =
-      new_at s.memory.pairs (makes_pair edit) (slice_get s.memory.keys t) key (value_of (seat_of s t).ask) (first picks.pairs) e k
-      (let l = (picked.pairs.free (first picks.pairs) (pair_taken e)).0 in omega (arith, l))
+  pair_made key e k = grind (arith, new_at, pair_taken)
 
   pub link_word : (i : Link) → Memᴰ i (chain_in edit picks) → slice_get (made_memory s t edit picks).words (cell_of i) ≡ Some (number_of i)
   link_word i m =

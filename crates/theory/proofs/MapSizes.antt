@@ -14,7 +14,7 @@ use Rattle.rules.specs.PlainMap.{without, map_after}
 use Rattle.rules.specs.Seats.{seat_of, is_idle, last_cell, new_cells}
 use Rattle.rules.specs.Theorem.{StampedCall, fed}
 use Rattle.rules.specs.declared.Ask.{Ask}
-use Rattle.rules.specs.declared.Ask.TheVariants.{Get, Put, Cut}
+use Rattle.rules.specs.declared.Ask.TheVariants.{Put}
 use Rattle.rules.specs.declared.Figures.{Figures}
 use Rattle.rules.specs.declared.Outcome.{Outcome}
 use Rattle.rules.specs.declared.Pair.{Pair}
@@ -36,8 +36,7 @@ module _ {K : Type 0} (same : K → K → Bool) (k : K) where
   without_length (y ∷ ys) = by (same y.key k) (without_length ys)
     where
       by : (b : Bool) → length (without same k ys) ≤ length ys → length (cond b (without same k ys) (y ∷ without same k ys)) ≤ suc (length ys)
-      by true l = omega (arith, l)
-      by false l = omega (arith, l)
+      by b l = grind arith
 
   -- A map that has the key is shorter without it.
   without_shorter : (y : Pair K) (ys : List (Pair K)) → Memᴰ y ys → same y.key k ≡ true → length (without same k ys) < length ys
@@ -53,13 +52,7 @@ module _ {K : Type 0} (same : K → K → Bool) (k : K) where
   -- A call makes the map longer by one pair at most, and only a put that adds does: one that does not has its key there.
   map_length : (ask : Ask) (adds : Bool) (ys : List (Pair K)) → ((v : ℕ) → ask ≡ Put v → adds ≡ false → (y : Pair K) × Memᴰ y ys × (same y.key k ≡ true))
       → length (map_after same ask k ys) ≤ length ys + cond adds 1 0
-  map_length Get adds ys f = omega arith
-  map_length (Put v) true ys f = let l = without_length ys in omega (arith, l)
-  map_length (Put v) false ys f =
-      let y = f v refl refl in
-      let l = without_shorter y.0 ys y.1 y.2 in
-      omega (arith, l)
-  map_length Cut adds ys f = let l = without_length ys in omega (arith, l)
+  map_length ask adds ys f = grind (arith, without_length, without_shorter)
 
 module _ {K : Type 0} (same : K → K → Bool) (s : State K) (t : ℕ) (calls : List (StampedCall K)) where
   -- The map after a turn that fixed nothing, and after one that fixed a result.

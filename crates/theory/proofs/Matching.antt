@@ -1,5 +1,5 @@
 -- Pairs and their places, listed side by side.
-use Rattle.std.proofs.Common.{◌≡◌, ℕ, suc, Bool, true, List, [], ◌∷◌, length, sym, refl, ap, ◌∙◌, subst}
+use Rattle.std.proofs.Common.{◌≡◌, ℕ, suc, Bool, List, [], ◌∷◌, length, sym, refl, ap, subst, arith}
 use mathlib.Core.List.{Memᴰ}
 use Rattle.keys.specs.Laws.{KeyLaws}
 use Rattle.rules.specs.PlainMap.{Unlike}
@@ -9,9 +9,8 @@ use Rattle.rules.specs.declared.Pair.{Pair}
 -- Places, and what they hold, one for one.
 abbrev pub Beside : {A : Type 0} → (ℕ → A → Type 0) → List ℕ → List A → Type 0
 Beside P [] [] = Unit {0}
-Beside P [] (y ∷ ys) = ⊥
-Beside P (p ∷ ps) [] = ⊥
 Beside P (p ∷ ps) (y ∷ ys) = P p y × Beside P ps ys
+Beside _ _ _ = ⊥
 
 module _ {A : Type 0} (P : ℕ → A → Type 0) where
   -- Where each has a place, they have a list of places.
@@ -24,9 +23,8 @@ module _ {A : Type 0} (P : ℕ → A → Type 0) where
 
   pub as_many : (ps : List ℕ) (ys : List A) → Beside P ps ys → length ys ≡ length ps
   as_many [] [] b = refl
-  as_many [] (y ∷ ys) b = absurd b
-  as_many (p ∷ ps) [] b = absurd b
   as_many (p ∷ ps) (y ∷ ys) b = ap suc (as_many ps ys b.1)
+  as_many _ _ b = absurd b
 
   pub of_place : (ps : List ℕ) (ys : List A) → Beside P ps ys → (p : ℕ) → Memᴰ p ps → (y : A) × Memᴰ y ys × P p y
   of_place [] ys b p m = elim m [ ]
@@ -41,15 +39,6 @@ module _ {A : Type 0} (P : ℕ → A → Type 0) where
   of_held (p ∷ ps) (z ∷ ys) b y (Memᴰ.tail m) = let r = of_held ps ys b.1 y m in (r.0, Memᴰ.tail r.1, r.2)
 
 module _ {K : Type 0} (same : K → K → Bool) (hash : K → ℕ) (laws : KeyLaws same hash) where
-  -- Where keys stay apart, a key has one pair.
-  pub one_pair : (ys : List (Pair K)) → Unlike same ys → (y z : Pair K) → Memᴰ y ys → Memᴰ z ys → same y.key z.key ≡ true → y ≡ z
-  unfolding Unlike
-  one_pair [] u y z m n t = elim m [ ]
-  one_pair (x ∷ ys) u y z (Memᴰ.head e) (Memᴰ.head d) t = e ∙ sym d
-  one_pair (x ∷ ys) u y z (Memᴰ.head e) (Memᴰ.tail n) t = absurd (u.0 z n (ap (λ w. same w.key z.key) (sym e) ∙ t))
-  one_pair (x ∷ ys) u y z (Memᴰ.tail m) (Memᴰ.head d) t = absurd (u.0 y m (ap (λ w. same w.key y.key) (sym d) ∙ laws.symmetric y.key z.key t))
-  one_pair (x ∷ ys) u y z (Memᴰ.tail m) (Memᴰ.tail n) t = one_pair ys u.1 y z m n t
-
   -- Then no place comes twice, if a place holds one pair.
   pub once_placed : (P : ℕ → Pair K → Type 0) → ((p : ℕ) (y z : Pair K) → P p y → P p z → y ≡ z) → (ps : List ℕ) (ys : List (Pair K)) → Beside P ps ys → Unlike same ys → Once ps
   unfolding Unlike
@@ -58,6 +47,4 @@ module _ {K : Type 0} (same : K → K → Bool) (hash : K → ℕ) (laws : KeyLa
   once_placed P one (p ∷ ps) (y ∷ ys) b u = (twice, once_placed P one ps ys b.1 u.1)
     where
       twice : Memᴰ p ps → ⊥
-      twice m =
-          let z = of_place P ps ys b.1 p m in
-          u.0 z.0 z.1 (ap (λ w. same y.key w.key) (sym (one p y z.0 b.0 z.2)) ∙ laws.reflexive y.key)
+      twice m = grind (arith, of_place)

@@ -147,11 +147,9 @@ module _ {K : Type 0} (same : K → K → Bool) (hash : K → ℕ) (laws : KeyLa
     where
       by : (b c : Bool) → is_idle x.phase ≡ c → (d : Bool)
           → (let p = cond b (refusing s NoSuchSeat) (cond c (refusing s SeatIdle) (cond d (refusing s CountersSpent) (keyed same hash (slice_get s.memory.keys t) x s.memory))) in Takes same hash s p.plan picks → Leads p.plan p.words)
-      by true c o d u = unfixed (stays same hash g.shows)
-      by false true o d u = unfixed (stays same hash g.shows)
-      by false false o true u = unfixed (stays same hash g.shows)
       by false false o false u = key (slice_get s.memory.keys t) refl u
         where
           key : (q : Option K) → slice_get s.memory.keys t ≡ q → Takes same hash s (keyed same hash q x s.memory).plan picks → Leads (keyed same hash q x s.memory).plan (keyed same hash q x s.memory).words
           key None e u = unfixed (stays same hash g.shows)
           key (Some k) e u = turning k o e _ _ u (sees same hash s.memory x k o)
+      by _ _ o _ u = unfixed (stays same hash g.shows)

@@ -5,7 +5,6 @@ use Rattle.machine.specs.Machine.{IsTomb, HasPair}
 use Rattle.machine.specs.Tree.{In, here, later}
 use Rattle.mains.proofs.Edits.{has_low}
 use Rattle.mains.proofs.Standing.{has_some}
-use Rattle.mains.specs.Lists.{listed}
 use Rattle.mains.specs.declared.Branch.{Branch}
 use Rattle.mains.specs.declared.Branch.TheVariants.{Pair as pair, Cell as cell}
 use Rattle.mains.specs.declared.Main.{Main}
@@ -43,11 +42,7 @@ mem_in x (y ∷ xs) (Memᴰ.tail m) = later (mem_in x xs m)
 
 -- A pair that the main shown names, it names.
 pub names_pair : (x : Main) (p : ℕ) → HasPair (shown_main x) p → NamesPair x p
-names_pair (node n) p m = (m.0, shows_edits.pair_from n m.0 p m.1)
-names_pair (tomb r) p m = m
-names_pair (listing l) p m = in_mem p (listed l) m
+names_pair x p m = grind (arith, shows_edits, in_mem)
 
 pub is_tomb_lem : (x : Main) → IsTomb (shown_main x) → is_tomb x ≡ true
-is_tomb_lem (node n) t = absurd t
-is_tomb_lem (tomb p) t = refl
-is_tomb_lem (listing l) t = absurd t
+is_tomb_lem x t = grind arith

@@ -1,20 +1,18 @@
 -- Openings and withdrawals: on the state shown they are steps of the machine, and they promise nothing.
-use Rattle.std.proofs.Common.{◌≡◌, ℕ, suc, ◌<◌, Bool, true, false, cond, not, leb, List, [], ◌∷◌, length, set, Ok, Err, Option, Result, sym, refl, ap, subst, arith}
+use Rattle.std.proofs.Common.{◌≡◌, ℕ, suc, ◌<◌, Bool, true, false, cond, not, leb, List, [], ◌∷◌, length, set, Ok, Err, Option, sym, refl, subst, arith}
 use Rattle.keys.specs.Routes.{chunk_at}
-use Rattle.std.proofs.lemmas.Bool.{and_parts, or_parts, leb-true, leb-false, false≢true}
-use Rattle.panel.specs.declared.Refusal.{Refusal}
+use Rattle.std.proofs.lemmas.Bool.{or_parts, leb-false, false≢true}
 use Rattle.panel.specs.declared.Refusal.TheVariants.{NoSuchSeat, SeatTaken, SeatIdle, CountersSpent, MemoryUnfit}
 use Rattle.machine.specs.Machine.{Seat as Place, read}
 use Rattle.machine.specs.Turn.{Turn, Turns, Goes}
 use Rattle.rules.specs.Calls.{Left, refused_as, opened, with_call, withdrawn, withdrawal}
 use Rattle.rules.specs.Memory.{Memory, State, last_count}
-use Rattle.rules.specs.Perform.{seated, promised_cells, promised_pairs}
+use Rattle.rules.specs.Perform.{seated}
 use Rattle.rules.specs.Reached.{cell_count, pair_count}
 use Rattle.rules.specs.Seats.{seat_of, no_seat, idle_seat, opened_seat, is_idle}
 use Rattle.rules.specs.Theorem.{StampedCall}
 use Rattle.rules.specs.declared.Ask.{Ask}
 use Rattle.rules.specs.declared.Figures.{Figures}
-use Rattle.rules.specs.declared.Limits.{Limits}
 use Rattle.rules.specs.declared.Seat.{Seat}
 use Rattle.theory.proofs.Entries.{set_here, set_there}
 use Rattle.theory.proofs.Ground.{Within}
@@ -39,16 +37,7 @@ module _ {K : Type 0} (same : K → K → Bool) (hash : K → ℕ) where
   -- A seat's record anew that promises nothing, in a memory that reaches as much.
   reseated_within : {s : State K} → Within same hash s → (z : State K) (t : ℕ) (y : Seat) → t < length s.table.seats → z.table.seats ≡ set s.table.seats t y → z.table.limits ≡ s.table.limits
       → cell_count same hash z.memory ≡ cell_count same hash s.memory → pair_count same hash z.memory ≡ pair_count same hash s.memory → cells_by y ≡ 0 → pairs_by y ≡ 0 → Within same hash z
-  reseated_within {s} v z t y l e q a b c d =
-      let p = cells_set s.table.seats t y l in
-      let r = pairs_set s.table.seats t y l in
-      let i = ap promised_cells e in
-      let j = ap promised_pairs e in
-      let g = ap (λ (n : Limits). n.cells) q in
-      let h = ap (λ (n : Limits). n.pairs) q in
-      let x = v.cells in
-      let u = v.pairs in
-      record { cells = omega (arith, p, i, a, c, g, x); pairs = omega (arith, r, j, b, d, h, u) }
+  reseated_within v z t y l e q a b c d = grind (arith, cells_set, pairs_set)
 
   module _ {f : Figures} where
     -- A seat that the table has is one of those shown.
@@ -63,10 +52,6 @@ module _ {K : Type 0} (same : K → K → Bool) (hash : K → ℕ) where
       where
         by : (u : Bool) → no_seat s t ≡ u → (i : Bool) → is_idle (seat_of s t).phase ≡ i → (n k : Bool) → leb (length s.memory.keys) t ≡ k
             → (let left : Left K ℕ = cond u (refused_as s NoSuchSeat) (cond (not i) (refused_as s SeatTaken) (cond n (refused_as s CountersSpent) (cond k (refused_as s MemoryUnfit) (record { state = with_call s t ask key; answer = Ok (suc s.table.openings) })))) in Moved same hash s left.state xs calls calls)
-        by true u i o n k l = stays same hash v
-        by false u false o n k l = stays same hash v
-        by false u true o true k l = stays same hash v
-        by false u true o false true l = stays same hash v
         by false u true o false false l =
             record {
               seats = set xs t (read (asked ask key) (0 ∷ []));
@@ -79,46 +64,25 @@ module _ {K : Type 0} (same : K → K → Bool) (hash : K → ℕ) where
                   (subst (λ (y : Place K). Goes same hash chunk_at (shown_mem s.memory) y (read (asked ask key) (0 ∷ []))) (sym (v.idles t o)) (Goes.opens (asked ask key) (asked_plain ask key))));
               fitting = λ fit. fit;
             }
+        by _ u _ o _ _ l = stays same hash v
 
     pub open_within : {s : State K} → Steady f s → Within same hash s → (t : ℕ) (ask : Ask) (key : K) → Within same hash (opened s t ask key).state
     open_within {s} w v t ask key = by (no_seat s t) refl (not (is_idle (seat_of s t).phase)) (leb last_count s.table.openings) (leb (length s.memory.keys) t)
       where
         by : (u : Bool) → no_seat s t ≡ u → (i n k : Bool) → (let left : Left K ℕ = cond u (refused_as s NoSuchSeat) (cond i (refused_as s SeatTaken) (cond n (refused_as s CountersSpent) (cond k (refused_as s MemoryUnfit) (record { state = with_call s t ask key; answer = Ok (suc s.table.openings) })))) in Within same hash left.state)
-        by true u i n k = v
-        by false u true n k = v
-        by false u false true k = v
-        by false u false false true = v
         by false u false false false =
             reseated_within v (with_call s t ask key) t (opened_seat ask (suc s.table.openings)) (seat_in_lem w t u) refl refl
             (cells_keyless s.memory (set s.memory.keys t key)) (pairs_keyless s.memory (set s.memory.keys t key)) refl refl
+        by _ u _ _ _ = v
 
     -- An opening finds its key place.
     pub open_fit : {s : State K} → Steady f s → (t : ℕ) (ask : Ask) (key : K) → (opened s t ask key).answer ≡ Err MemoryUnfit → ⊥
-    open_fit {s} w t ask key = by (no_seat s t) refl (not (is_idle (seat_of s t).phase)) (leb last_count s.table.openings) (leb (length s.memory.keys) t) refl
-      where
-        other : {A : Type 0} {a b : Refusal} → ◌≡◌ {A = Result A Refusal} (Err a) (Err b) → a ≡ b
-        other e = cc
-
-        by : (u : Bool) → no_seat s t ≡ u → (i n k : Bool) → leb (length s.memory.keys) t ≡ k → (let left : Left K ℕ = cond u (refused_as s NoSuchSeat) (cond i (refused_as s SeatTaken) (cond n (refused_as s CountersSpent) (cond k (refused_as s MemoryUnfit) (record { state = with_call s t ask key; answer = Ok (suc s.table.openings) })))) in left.answer ≡ Err MemoryUnfit → ⊥)
-        by true u i n k l e = let z : ◌≡◌ {A = ℕ} 0 1 = cc in omega arith
-        by false u true n k l e = let z : ◌≡◌ {A = ℕ} 0 1 = cc in omega arith
-        by false u false true k l e = let z : ◌≡◌ {A = ℕ} 0 1 = cc in omega arith
-        by false u false false true l e =
-            let a = (and_parts (leb _ (length s.memory.words)) _ w.memory).1 in
-            let b = (and_parts (leb _ (length s.memory.mains)) _ a).1 in
-            let c = (and_parts (leb _ (length s.memory.pairs)) _ b).1 in
-            let n = leb-true f.seats (length s.memory.keys) c in
-            let m = leb-true (length s.memory.keys) t l in
-            let r = leb-false s.table.limits.seats t (or_parts (leb s.table.limits.seats t) _ u).0 in
-            let q = ap (λ (x : Limits). x.seats) w.limits in
-            omega (arith, n, m, r, q)
-        by false u false false false l e = let z : ◌≡◌ {A = ℕ} 0 1 = cc in omega arith
+    open_fit w t ask key = grind arith
 
     -- A seat that is freed promises nothing any more.
     pub withdraw_within : {s : State K} → Steady f s → Within same hash s → (t : ℕ) → Within same hash (withdrawn s t).state
     withdraw_within {s} w v t = by (no_seat s t) refl (is_idle (seat_of s t).phase)
       where
         by : (u : Bool) → no_seat s t ≡ u → (i : Bool) → (let left : Left K (Option Stamped) = cond u (refused_as s NoSuchSeat) (cond i (refused_as s SeatIdle) (record { state = seated s s.memory t idle_seat s.table.ticks; answer = Ok (withdrawal (seat_of s t)) })) in Within same hash left.state)
-        by true u i = v
-        by false u true = v
         by false u false = reseated_within v (seated s s.memory t idle_seat s.table.ticks) t idle_seat (seat_in_lem w t u) refl refl refl refl refl refl
+        by _ u _ = v

@@ -1,7 +1,7 @@
 -- The stamped calls of every history have an order: the book of a history says so.
-use Rattle.std.proofs.Common.{◌≡◌, ℕ, zero, suc, ◌≤◌, Bool, true, false, cond, not, leb, ◌⊎◌, List, [], ◌∷◌, length, get_or, replicate, Some, None, Ok, Option, sym, refl, ap, ◌∙◌, subst, inl, inr, arith}
+use Rattle.std.proofs.Common.{◌≡◌, ℕ, suc, ◌≤◌, Bool, true, false, cond, not, leb, ◌⊎◌, List, [], ◌∷◌, length, get_or, replicate, Some, None, Ok, Option, sym, refl, ap, ◌∙◌, subst, inl, inr, arith}
 use mathlib.Core.List.{Memᴰ}
-use Rattle.std.proofs.lemmas.Bool.{true≢false, leb-false}
+use Rattle.std.proofs.lemmas.Bool.{leb-false}
 use Rattle.panel.specs.declared.Refusal.TheVariants.{NoSuchSeat, SeatTaken, SeatIdle, CountersSpent, MemoryUnfit}
 use Rattle.rules.specs.Calls.{Left, refused_as, formatted, opened, with_call, withdrawn, withdrawal}
 use Rattle.rules.specs.History.{Event, History, bears, Does, Runs}
@@ -17,7 +17,6 @@ use Rattle.rules.specs.declared.Figures.{Figures}
 use Rattle.rules.specs.declared.Outcome.{Outcome}
 use Rattle.rules.specs.declared.Reply.{Reply}
 use Rattle.rules.specs.declared.Reply.TheVariants.{Opened, Turned, Withdrew, Counted}
-use Rattle.rules.specs.declared.Seat.{Seat}
 use Rattle.rules.specs.declared.Stamped.{Stamped}
 use Rattle.theory.proofs.Book.{Book, Recorded, Ending, opened_by, ended_by, seat_in}
 use Rattle.theory.proofs.Deeds.{Deed, turn_deed}
@@ -28,34 +27,18 @@ use Rattle.theory.specs.Orders.{OrderTheorem}
 
 -- All seats of a fresh table are idle.
 pub all_idle : (n t : ℕ) → get_or (replicate n idle_seat) t idle_seat ≡ idle_seat
-all_idle zero t = refl
-all_idle (suc n) zero = refl
 all_idle (suc n) (suc t) = all_idle n t
+all_idle _ _ = refl
 
 -- The result that a call fixed, if it is a turn that did.
 abbrev pub fixed_by : {K : Type 0} (same : K → K → Bool) (hash : K → ℕ) (s : State K) (c : Call K) (r : Reply) (z : State K) → Does same hash s c r z → Option Outcome
-fixed_by same hash s (Open t ask key) r z d = None
-fixed_by same hash s (Turn t) (Opened r) z d = None
 fixed_by same hash s (Turn t) (Turned r) z d = d.0.fixed
-fixed_by same hash s (Turn t) (Withdrew r) z d = None
-fixed_by same hash s (Turn t) (Counted r) z d = None
-fixed_by same hash s (Withdraw t) r z d = None
-fixed_by same hash s Count r z d = None
+fixed_by same hash s _ _ z d = None
 
 module _ {K : Type 0} where
   pub fresh_book : (f : Figures) (m : Memory K) → Book [] (formatted f m) []
   unfolding Rising
-  fresh_book f m =
-      record {
-        seats = λ t o. absurd (true≢false (ap (λ (x : Seat). is_idle x.phase) (sym (all_idle 8 t)) ∙ o));
-        inside = λ t o. absurd (true≢false (ap (λ (x : Seat). is_idle x.phase) (sym (all_idle 8 t)) ∙ o));
-        opened = λ e n i. elim i [ ];
-        one = λ e d n i. elim i [ ];
-        each = λ c i. elim i [ ];
-        ended = λ e z i. elim i [ ];
-        once = tt;
-        rising = tt;
-      }
+  fresh_book f m = grind arith
 
   module _ {h : History K} {s : State K} {calls : List (StampedCall K)} (b : Book h s calls) where
     -- What alters nothing.
@@ -66,19 +49,15 @@ module _ {K : Type 0} where
     open_next t ask key = by (no_seat s t) refl (is_idle (seat_of s t).phase) refl (leb last_count s.table.openings) (leb (length s.memory.keys) t) refl
       where
         by : (u : Bool) → no_seat s t ≡ u → (i : Bool) → is_idle (seat_of s t).phase ≡ i → (n k : Bool) → leb (length s.memory.keys) t ≡ k → (let left : Left K ℕ = cond u (refused_as s NoSuchSeat) (cond (not i) (refused_as s SeatTaken) (cond n (refused_as s CountersSpent) (cond k (refused_as s MemoryUnfit) (record { state = with_call s t ask key; answer = Ok (suc s.table.openings) })))) in Next h calls (record { call = Open t ask key; reply = Opened left.answer; number = 0; ticks = left.state.table.ticks }) s left.state t None)
-        by true u i o n k l = unaltered _ t refl refl
-        by false u false o n k l = unaltered _ t refl refl
-        by false u true o true k l = unaltered _ t refl refl
-        by false u true o false true l = unaltered _ t refl refl
         by false u true o false false l = not_fixed (opening_entered b t ask key u o (leb-false (length s.memory.keys) t l))
+        by _ u _ o _ _ l = unaltered _ t refl refl
 
     withdraw_next : (t : ℕ) → Next h calls (record { call = Withdraw t; reply = Withdrew (withdrawn s t).answer; number = (seat_of s t).number; ticks = (withdrawn s t).state.table.ticks }) s (withdrawn s t).state t None
     withdraw_next t = by (no_seat s t) (is_idle (seat_of s t).phase) refl
       where
         by : (u i : Bool) → is_idle (seat_of s t).phase ≡ i → (let left : Left K (Option Stamped) = cond u (refused_as s NoSuchSeat) (cond i (refused_as s SeatIdle) (record { state = seated s s.memory t idle_seat s.table.ticks; answer = Ok (withdrawal (seat_of s t)) })) in Next h calls (record { call = Withdraw t; reply = Withdrew left.answer; number = (seat_of s t).number; ticks = left.state.table.ticks }) s left.state t None)
-        by true i o = unaltered _ t refl refl
-        by false true o = unaltered _ t refl refl
         by false false o = not_fixed (withdrawal_entered b t o)
+        by _ _ o = unaltered _ t refl refl
 
     turn_next : (t : ℕ) (out : Out K) → Deed s t out → Next h calls (record { call = Turn t; reply = Turned out.answer; number = (seat_of s t).number; ticks = out.state.table.ticks }) s out.state t out.fixed
     turn_next t out (Deed.refused e p q f) = rw (p, q, f) (unaltered _ t refl refl)
@@ -88,22 +67,11 @@ module _ {K : Type 0} where
       -- Whatever a call does, its event is entered.
       pub does_next : (c : Call K) (r : Reply) (z : State K) (d : Does same hash s c r z) → Next h calls (record { call = c; reply = r; number = bears s c; ticks = z.table.ticks }) s z (seat_in c) (fixed_by same hash s c r z d)
       does_next (Open t ask key) (Opened r) z (p, q) = rw (p, q) (open_next t ask key)
-      does_next (Open t ask key) (Turned r) z d = absurd d
-      does_next (Open t ask key) (Withdrew r) z d = absurd d
-      does_next (Open t ask key) (Counted r) z d = absurd d
-      does_next (Turn t) (Opened r) z d = absurd d
       does_next (Turn t) (Turned r) z (out, (picks, takes, e), p, q) =
           rw (p, q) (turn_next t out (subst (Deed s t) (sym e) (turn_deed same hash s t picks (λ o. (b.seats t o).phased))))
-      does_next (Turn t) (Withdrew r) z d = absurd d
-      does_next (Turn t) (Counted r) z d = absurd d
-      does_next (Withdraw t) (Opened r) z d = absurd d
-      does_next (Withdraw t) (Turned r) z d = absurd d
       does_next (Withdraw t) (Withdrew r) z (p, q) = rw (p, q) (withdraw_next t)
-      does_next (Withdraw t) (Counted r) z d = absurd d
-      does_next Count (Opened r) z d = absurd d
-      does_next Count (Turned r) z d = absurd d
-      does_next Count (Withdrew r) z d = absurd d
       does_next Count (Counted r) z (p, q) = rw q (unaltered _ 0 refl refl)
+      does_next _ _ z d = absurd d
 
   -- Every history has its book.
   pub book_of : (same : K → K → Bool) (hash : K → ℕ) (f : Figures) {h : History K} {s : State K} → Runs same hash f h s → (calls : List (StampedCall K)) × Book h s calls
@@ -130,13 +98,7 @@ module _ {K : Type 0} where
 
   -- What a withdrawal would tell of a settled call, and only of one.
   tells_settled : (s : State K) (t : ℕ) (z : Stamped) → (withdrawn s t).answer ≡ Ok (Some z) → (is_idle (seat_of s t).phase ≡ false) × (is_settled (seat_of s t) ≡ true) × (stamped_by (seat_of s t) ≡ z)
-  tells_settled s t z e = by (no_seat s t) (is_idle (seat_of s t).phase) refl (is_settled (seat_of s t)) refl e
-    where
-      by : (u i : Bool) → is_idle (seat_of s t).phase ≡ i → (k : Bool) → is_settled (seat_of s t) ≡ k → (let left : Left K (Option Stamped) = cond u (refused_as s NoSuchSeat) (cond i (refused_as s SeatIdle) (record { state = seated s s.memory t idle_seat s.table.ticks; answer = Ok (cond k (Some (stamped_by (seat_of s t))) None) })) in left.answer ≡ Ok (Some z)) → (is_idle (seat_of s t).phase ≡ false) × (is_settled (seat_of s t) ≡ true) × (stamped_by (seat_of s t) ≡ z)
-      by true i o k w e = let z : ◌≡◌ {A = ℕ} 0 1 = cc in absurd (omega arith)
-      by false true o k w e = let z : ◌≡◌ {A = ℕ} 0 1 = cc in absurd (omega arith)
-      by false false o false w e = let z : ◌≡◌ {A = ℕ} 0 1 = cc in absurd (omega arith)
-      by false false o true w e = (o, w, cc)
+  tells_settled s t z e = grind arith
 
   settled_tells : (s : State K) (t : ℕ) → no_seat s t ≡ false → is_idle (seat_of s t).phase ≡ false → is_settled (seat_of s t) ≡ true → (withdrawn s t).answer ≡ Ok (Some (stamped_by (seat_of s t)))
   settled_tells s t u i k = rw (u, i, k) refl
@@ -151,15 +113,7 @@ module _ {K : Type 0} where
 
     -- A call that ended like one of the book, and was asked, is that one.
     is_recorded : (c : StampedCall K) (t u n : ℕ) (z : Stamped) → Recorded h calls t n z → Asked h u c → c.number ≡ n → c.result ≡ z.outcome → c.stamp ≡ z.stamp → Memᴰ c calls
-    is_recorded c t u n z r i p q w =
-        let parts = one_opening c r.call u t i r.asked (p ∙ sym r.its_number) in
-        let k : c ≡ r.call = alike c r.call (p ∙ sym r.its_number) parts.1 parts.2 parts.3 (w ∙ sym r.its_stamp) (q ∙ sym r.its_result) in
-        subst (λ d. Memᴰ d calls) (sym k) r.listed
-      where
-        alike : (c d : StampedCall K) → c.number ≡ d.number → c.ask ≡ d.ask → c.key ≡ d.key → c.at ≡ d.at → c.stamp ≡ d.stamp → c.result ≡ d.result → c ≡ d
-        alike c d n a k t w r =
-            let fields : (record { number = c.number; ask = c.ask; key = c.key; at = c.at; stamp = c.stamp; result = c.result }) ≡ (record { number = d.number; ask = d.ask; key = d.key; at = d.at; stamp = d.stamp; result = d.result }) = rw (n, a, k, t, w, r) refl in
-            fields
+    is_recorded c t u n z r i p q w = grind (arith, one_opening)
 
     stamped_in : (c : StampedCall K) (t : ℕ) → Asked h t c → Ends h s t c → Memᴰ c calls
     stamped_in c t i (Ends.finished e j) = is_recorded c t t c.number _ (b.ended _ _ j refl).0 i refl refl refl
@@ -178,11 +132,7 @@ module _ {K : Type 0} where
 
     -- The end of a call tells what the book has of it.
     told : (c : StampedCall K) → Memᴰ c calls → (t : ℕ) (z : Stamped) (e : ℕ) → Recorded h calls t c.number z × (z.stamp ≤ e) → (z.outcome ≡ c.result) × (z.stamp ≡ c.stamp) × (c.stamp ≤ e)
-    told c i t z e r =
-        let k = by_number calls r.0.call c b.once r.0.listed i r.0.its_number in
-        let stamps : z.stamp ≡ c.stamp = sym r.0.its_stamp ∙ ap (λ (d : StampedCall K). d.stamp) k in
-        let l = r.1 in
-        (sym r.0.its_result ∙ ap (λ (d : StampedCall K). d.result) k, stamps, omega (arith, stamps, l))
+    told c i t z e r = grind (arith, by_number)
 
     pub ordered : Ordered h s calls
     ordered =

@@ -1,10 +1,9 @@
 -- What the records of open calls name, where the stock of written cells and mains grows.
-use Rattle.std.proofs.Common.{◌≡◌, ℕ, ◌+◌, ◌-◌, ◌<◌, ◌≤◌, Bool, true, false, eqb, ◌⊎◌, List, ◌++◌, length, get_or, set, replicate, Some, None, sym, ap, ◌∙◌, subst, inl, inr, arith, get_or-set_other}
+use Rattle.std.proofs.Common.{◌≡◌, ℕ, ◌+◌, ◌<◌, ◌≤◌, Bool, true, false, List, ◌++◌, length, get_or, set, replicate, Some, sym, subst, arith, get_or-set_other}
 use mathlib.Core.List.Memᴰ
 use mathlib.Core.List.{Memᴰ}
-use Rattle.std.specs.List.{slice_get}
-use Rattle.std.proofs.lemmas.Bool.{cases_eq, cond_both, false≢true}
-use Rattle.std.proofs.lemmas.Option.{none-some, same_Some, get_or_from_slice_get}
+use Rattle.std.proofs.lemmas.Bool.{cases_eq, cond_both}
+use Rattle.std.proofs.lemmas.Option.{none-some, get_or_from_slice_get}
 use Rattle.mains.specs.declared.Main.{Main}
 use Rattle.rules.specs.InUse.{is_pending}
 use Rattle.rules.specs.Memory.{State}
@@ -17,15 +16,7 @@ use Rattle.theory.proofs.Writing.{Written, Owns, Fine, is_burying}
 
 -- What a record names may be named where there is more.
 pub owns_more : {cells mains more_cells more_mains : List ℕ} {pairs : ℕ} {x : Seat} → ((c : ℕ) → Memᴰ c cells → Memᴰ c more_cells) → ((n : ℕ) → Memᴰ n mains → Memᴰ n more_mains) → Owns cells mains pairs x → Owns more_cells more_mains pairs x
-owns_more f g o =
-    record {
-      path = λ i l. f _ (o.path i l);
-      buried = o.buried;
-      expected = λ e. g _ (o.expected e);
-      made = λ e. g _ (o.made e);
-      pair = o.pair;
-      news = λ e k m. let i = o.news e k m in (f _ i.0, g _ i.1);
-    }
+owns_more f g o = grind arith
 
 -- PATHS
 
@@ -38,37 +29,19 @@ trod_root {cells} m i l = let e : 0 ≡ i = omega (arith, l) in subst (λ j. Mem
 
 -- One more cell, which the path has a place for, or else the root stands in for it.
 pub trod_more : {cells : List ℕ} (path : List ℕ) (depth d : ℕ) → Memᴰ 0 cells → Memᴰ d cells → Trod cells path depth → Trod cells (set path (depth + 1) d) (depth + 1)
-trod_more {cells} path depth d o m f i l = by (cases_eq i (depth + 1))
-  where
-    here : (get_or (set path (depth + 1) d) (depth + 1) 0 ≡ d) ⊎ (get_or (set path (depth + 1) d) (depth + 1) 0 ≡ 0) → Memᴰ (get_or (set path (depth + 1) d) (depth + 1) 0) cells
-    here (inl e) = Memᴰ.cast e m
-    here (inr e) = Memᴰ.cast e o
-
-    by : (i ≡ depth + 1) ⊎ (i ≡ depth + 1 → ⊥) → Memᴰ (get_or (set path (depth + 1) d) i 0) cells
-    by (inl e) = subst (λ j. Memᴰ (get_or (set path (depth + 1) d) j 0) cells) (sym e) (here (set_here path (depth + 1) d 0))
-    by (inr ne) = Memᴰ.cast (get_or-set_other path (depth + 1) i d 0 ne) (f i (omega (arith, l, ne)))
+trod_more path depth d o m f i l = grind (arith, cases_eq, set_here, get_or-set_other)
 
 module _ {cells mains : List ℕ} {pairs : ℕ} where
   -- A record that has nothing prepared.
   pub owns_walking : (x : Seat) → is_pending x.phase ≡ false → (is_burying x.phase ≡ true → x.buried < pairs) → Trod cells x.path.cells x.path.depth → Owns cells mains pairs x
-  owns_walking x p b f =
-      record {
-        path = f;
-        buried = b;
-        expected = λ e. absurd (false≢true (sym p ∙ e));
-        made = λ e. absurd (false≢true (sym p ∙ e));
-        pair = λ e. absurd (false≢true (sym p ∙ ap is_pending e));
-        news = λ e. absurd (false≢true (sym p ∙ ap is_pending e));
-      }
+  owns_walking x p b f = grind arith
 
   -- The last cell of a path and the one before it are cells of the path.
   pub last_owned : (x : Seat) (c : ℕ) → Owns cells mains pairs x → last_cell x ≡ Some c → Memᴰ c cells
   last_owned x c o e = Memᴰ.cast (sym (get_or_from_slice_get x.path.cells x.path.depth c 0 e)) (o.path x.path.depth (omega arith))
 
   pub parent_owned : (x : Seat) (c : ℕ) → Owns cells mains pairs x → parent_cell x ≡ Some c → Memᴰ c cells
-  parent_owned x c o =
-      cond_both (eqb x.path.depth 0) None (slice_get x.path.cells (x.path.depth - 1)) (λ u. u ≡ Some c → Memᴰ c cells) (λ _ e. absurd (none-some _ e))
-      (λ _ e. Memᴰ.cast (sym (get_or_from_slice_get x.path.cells (x.path.depth - 1) c 0 e)) (o.path (x.path.depth - 1) (omega arith)))
+  parent_owned x c o = grind (arith, cond_both, none-some, get_or_from_slice_get)
 
 -- STATES
 
@@ -78,11 +51,7 @@ module _ {K : Type 0} {s : State K} (k : Written s) where
 
   -- What a written cell holds is written and fine.
   pub read_written : (same : K → K → Bool) (hash : K → ℕ) (c n : ℕ) (y : Main) → Memᴰ c k.cells → Holds same hash s.memory c n y → Memᴰ n k.mains × Fine k.cells (length s.memory.pairs) y
-  read_written same hash c n y m h =
-      let w = k.held c m in
-      let i = Memᴰ.cast (same_Some n w.0 (sym h.word ∙ w.1)) w.2 in
-      let x = k.there n i in
-      (i, subst (Fine k.cells (length s.memory.pairs)) (same_Some x.0 y (sym x.1 ∙ h.main)) x.2)
+  read_written same hash c n y m h = grind arith
 
   module _ (cells mains : List ℕ) where
     abbrev Own : Seat → Type 0

@@ -18,7 +18,7 @@ use Rattle.rules.specs.Seats.{is_idle, is_settled, is_cut, restarted, grown, dro
 use Rattle.rules.specs.Sound.{sound, pairs_at}
 use Rattle.rules.specs.Turns.{look, at_nothing, at_equal, at_other, not_listed, listed_at, place_of, at_place, climbed, gives_up, climbs, at_parent, after_swap, after_clean, at_pair, at_branch, at_list, read_plan, parent_plan, decide, decided, keyed}
 use Rattle.rules.specs.declared.Ask.{Ask}
-use Rattle.rules.specs.declared.Ask.TheVariants.{Get, Put, Cut}
+use Rattle.rules.specs.declared.Ask.TheVariants.{Get, Put}
 use Rattle.rules.specs.declared.Edit.{Edit}
 use Rattle.rules.specs.declared.Edit.TheVariants.{Fixed}
 use Rattle.rules.specs.declared.Fork.{Fork}
@@ -53,29 +53,24 @@ pub data Follows (x : Seat) : Phase → Plan → Type 0 where
 
 module _ (x : Seat) where
   at_nothing_lem : (ask : Ask) (n : ℕ) (y : Node) (q : ℕ) → Follows x Read (at_nothing ask n y q)
-  at_nothing_lem Get n y q = Follows.answers
   at_nothing_lem (Put v) n y q = Follows.prepares
-  at_nothing_lem Cut n y q = Follows.answers
+  at_nothing_lem _ n y q = Follows.answers
 
   at_equal_lem : (ask : Ask) (n : ℕ) (y : Node) (q i v : ℕ) → Follows x Read (at_equal ask n y q i v)
   at_equal_lem Get n y q i v = Follows.answers
-  at_equal_lem (Put w) n y q i v = Follows.prepares
-  at_equal_lem Cut n y q i v = Follows.prepares
+  at_equal_lem _ n y q i v = Follows.prepares
 
   at_other_lem : (ask : Ask) (n : ℕ) (f : Fork) → Follows x Read (at_other ask n f)
-  at_other_lem Get n f = Follows.answers
   at_other_lem (Put v) n f = Follows.prepares
-  at_other_lem Cut n f = Follows.answers
+  at_other_lem _ n f = Follows.answers
 
   not_listed_lem : (ask : Ask) (n : ℕ) (l : PairList) → Follows x Read (not_listed ask n l)
-  not_listed_lem Get n l = Follows.answers
   not_listed_lem (Put v) n l = cond_both (leb 32 l.count) _ _ (Follows x _) (λ e. Follows.meets_full) (λ e. Follows.prepares)
-  not_listed_lem Cut n l = Follows.answers
+  not_listed_lem _ n l = Follows.answers
 
   listed_at_lem : (ask : Ask) (n : ℕ) (l : PairList) (i v : ℕ) → Follows x Read (listed_at ask n l i v)
   listed_at_lem Get n l i v = Follows.answers
-  listed_at_lem (Put w) n l i v = Follows.prepares
-  listed_at_lem Cut n l i v = Follows.prepares
+  listed_at_lem _ n l i v = Follows.prepares
 
   at_place_lem : (o : Option (ℕ × ℕ)) (ask : Ask) (n : ℕ) (l : PairList) → Follows x Read (at_place o ask n l)
   at_place_lem None ask n l = not_listed_lem ask n l
@@ -92,9 +87,8 @@ module _ (x : Seat) where
   gives_up_lem = cond_both (is_settled x) _ _ (Follows x _) (λ e. climbs_up (λ p. e)) (λ e. Follows.restarts (λ p. e))
 
   at_parent_lem : (o : Option Branch) (n : ℕ) (y : Node) (q i c : ℕ) → Follows x Parent (at_parent o x n y q i c)
-  at_parent_lem None n y q i c = gives_up_lem
-  at_parent_lem (Some (pair p)) n y q i c = gives_up_lem
   at_parent_lem (Some (cell d)) n y q i c = cond_both (eqb d c) _ _ (Follows x _) (λ e. Follows.cleans) (λ e. gives_up_lem)
+  at_parent_lem _ n y q i c = gives_up_lem
 
   after_swap_lem : (b : Bool) → Follows x Swap (after_swap b x)
   after_swap_lem true =
@@ -136,29 +130,23 @@ module _ (x : Seat) where
     at_read (listing l) key m n s = at_list_lem (pairs_at m.pairs (listed l)) key n l
 
     at_climb : (y : Main) (pairs : List (Pair K)) → sound same hash pairs x.path.depth y ≡ true → Follows x Climb (climbs y x)
-    at_climb (node y) pairs s = climbs_up (λ p. p)
     at_climb (tomb p) pairs s = Follows.meets_tomb p (tomb_low pairs x.path.depth p s)
-    at_climb (listing l) pairs s = climbs_up (λ p. p)
+    at_climb _ pairs s = climbs_up (λ p. p)
 
     above : (y : Main) (key : K) (n i c : ℕ) → Follows x Parent (parent_plan same hash y x key n i c)
     above (node y) key n i c = at_parent_lem (branch_at y (chunk_at (hash key) i)) n y (chunk_at (hash key) i) i c
-    above (tomb p) key n i c = gives_up_lem
-    above (listing l) key n i c = gives_up_lem
+    above _ key n i c = gives_up_lem
 
     decides : (phase : Phase) (seen : Seen) (key : K) (m : Memory K) → is_idle phase ≡ false → Follows x phase (decide same hash phase seen x key m)
     decides Idle seen key m o = absurd (true≢false o)
     decides Read (Saw n y) key m o = cond_both (sound same hash m.pairs x.path.depth y) _ _ (Follows x _) (at_read y key m n) (λ e. Follows.refuses)
-    decides Read (Swapped b) key m o = Follows.refuses
-    decides Swap (Saw n y) key m o = Follows.refuses
     decides Swap (Swapped b) key m o = after_swap_lem b
     decides Climb (Saw n y) key m o = cond_both (sound same hash m.pairs x.path.depth y) _ _ (Follows x _) (at_climb y m.pairs) (λ e. Follows.refuses)
-    decides Climb (Swapped b) key m o = Follows.refuses
     decides Parent (Saw n y) key m o =
         cond_both (sound same hash m.pairs (x.path.depth - 1) y) _ _ (Follows x _)
         (λ e. above y key n (x.path.depth - 1) (get_or x.path.cells x.path.depth 0)) (λ e. Follows.refuses)
-    decides Parent (Swapped b) key m o = Follows.refuses
-    decides Clean (Saw n y) key m o = Follows.refuses
     decides Clean (Swapped b) key m o = after_clean_lem b
+    decides _ _ key m o = Follows.refuses
 
     -- The plan of an open seat, with or without a key place, whatever is seen.
     pub plan_follows : (o : Option K) (m : Memory K) → is_idle x.phase ≡ false → Follows x x.phase (keyed same hash o x m).plan

@@ -1,12 +1,12 @@
 -- Every call keeps what pending calls say of themselves.
-use Rattle.std.proofs.Common.{◌≡◌, ℕ, ◌+◌, ◌-◌, ◌≤◌, Bool, true, false, cond, ◌&&◌, List, length, get_or, set, None, sym, refl, ap, ◌∙◌, arith}
+use Rattle.std.proofs.Common.{◌≡◌, ℕ, ◌-◌, ◌≤◌, Bool, true, false, cond, ◌&&◌, List, get_or, set, None, sym, refl, ap, ◌∙◌, arith}
 use Rattle.keys.specs.Routes.{chunk_at}
 use Rattle.std.proofs.lemmas.Bool.{true≢false, false≢true}
 use Rattle.panel.specs.declared.Refusal.TheVariants.{MemoryUnfit, TableFull}
 use Rattle.mains.specs.Nodes.{replaced}
 use Rattle.mains.specs.declared.Branch.TheVariants.{Pair as pair}
 use Rattle.mains.specs.declared.Main.{Main}
-use Rattle.rules.specs.Edits.{kept_node, adds_pair, links_of, first, rest, places}
+use Rattle.rules.specs.Edits.{kept_node, adds_pair, links_of}
 use Rattle.rules.specs.History.{Does}
 use Rattle.rules.specs.InUse.{is_pending}
 use Rattle.rules.specs.Memory.{State}
@@ -27,7 +27,7 @@ use Rattle.theory.proofs.Calling.{Preserves, does_by}
 use Rattle.theory.proofs.Chaining.{chain_short, recorded_whole}
 use Rattle.theory.proofs.Drafted.{drafts_adds, drafts_hopes, drafts_room}
 use Rattle.theory.proofs.ListPlaces.{each_set}
-use Rattle.theory.proofs.Sights.{Reads, Drafts, Leaves, Sees}
+use Rattle.theory.proofs.Sights.{Reads, Leaves, Sees}
 use Rattle.theory.proofs.Writing.{Poised, is_burying}
 use Rattle.theory.specs.Records.{Steady}
 
@@ -65,47 +65,22 @@ module _ {K : Type 0} (same : K → K → Bool) (hash : K → ℕ) (s : State K)
 
   leaves : (words : List ℕ) (picks : Picks) (p : Plan) → Leaves same hash (seat_of s t) p → AllPoised (seats_after words p picks)
   leaves words picks p (Leaves.closes u l) = walks _ refl
-  leaves words picks p (Leaves.drops u l) = walks _ refl
-  leaves words picks p (Leaves.restarts u) = walks _ refl
-
-  -- A draft says what it hopes for; its new cells lie below the path, and the record has them all.
-  drafted : (key : K) (n : ℕ) (picks : Picks) (y : Main) (edit : Edit) (r : Outcome) → (seat_of s t).path.depth ≤ 7 → Drafts same hash s.memory key (seat_of s t).path.depth (seat_of s t).ask y edit r → Picked same hash s edit picks
-      → Poised (prepared (hoping (seat_of s t) r) Swap (pending_for edit n picks))
-  drafted key n picks y edit r l d u =
-      record { hopes = λ _. drafts_hopes same hash d; short = λ _. room; links = λ _. recorded_whole (places (chain_in edit picks)) (omega (arith, room)); adds = λ _ e. drafts_adds same hash d e }
-    where
-      room : (seat_of s t).path.depth + length (places (chain_in edit picks)) ≤ 7
-      room =
-          let a = chain_short (first picks.pairs) picks.cells (rest picks.mains) edit in
-          let b = u.cells.few in
-          let c = drafts_room same hash d l in
-          omega (arith, a, b, c)
+  leaves words picks p _ = walks _ refl
 
   reads : (key : K) (n : ℕ) (picks : Picks) → (seat_of s t).path.depth ≤ 7 → (y : Main) (p : Plan) → Reads same hash s.memory (seat_of s t) key n y p → Takes same hash s p picks → AllPoised (seats_after s.memory.words p picks)
   reads key n picks l y p (Reads.missing i j b h) u = all
-  reads key n picks l y p (Reads.full i e) u = walks _ refl
-  reads key n picks l y p (Reads.lacks e h) u = walks _ refl
-  reads key n picks l y p (Reads.finds e h) u = walks _ refl
-  reads key n picks l y p (Reads.grows i d b) u = walks _ refl
-  reads key n picks l y p (Reads.meets i) u = walks _ refl
-  reads key n picks l y p (Reads.drafts {edit = edit} {r = r} d) u = makes edit Swap n r picks s.memory.words (drafted key n picks y edit r l d u)
+  reads key n picks l y p (Reads.drafts {edit = edit} {r = r} d) u = makes edit Swap n r picks s.memory.words (grind (arith, drafts_hopes, recorded_whole, drafts_adds, chain_short, drafts_room))
+  reads key n picks l y p _ u = walks _ refl
 
   sees : (key : K) (picks : Picks) → (seat_of s t).path.depth ≤ 7 → (p : Plan) (words : List ℕ) → Sees same hash s.memory (seat_of s t) key p words → Takes same hash s p picks → AllPoised (seats_after words p picks)
   sees key picks k p words (Sees.unfit e) u = all
   sees key picks k p words (Sees.reads e c n y l h g d) u = reads key n picks k y p d u
-  sees key picks k p words (Sees.settles e c l h a d) u = walks _ refl
-  sees key picks k p words (Sees.finishes e c l h d) u = walks _ refl
-  sees key picks k p words (Sees.loses e) u = walks _ refl
-  sees key picks k p words (Sees.buries e c n i l h d) u = walks _ refl
-  sees key picks k p words (Sees.climbs_close e c n y l h b d) u = walks _ refl
-  sees key picks k p words (Sees.climbs_drop e c n y l h b d) u = walks _ refl
   sees key picks k p words (Sees.contracts e c n y l h g b) u =
       let i = (seat_of s t).path.depth - 1 in
       makes (Fixed (kept_node i (replaced y (chunk_at (hash key) i) (pair (seat_of s t).buried)))) Clean n (seat_of s t).verdict.outcome picks words (silent _ (λ q. true≢false (ap is_burying q)))
   sees key picks k p words (Sees.parts e c n y l h b d) u = leaves words picks p d
   sees key picks k p words (Sees.cleans e c l h d) u = leaves words picks p d
-  sees key picks k p words (Sees.misses e b) u = walks _ refl
-  sees key picks k p words (Sees.gives_up_lem e b) u = walks _ refl
+  sees key picks k p words _ u = walks _ refl
 
 module _ {K : Type 0} (same : K → K → Bool) (hash : K → ℕ) {f : Figures} (s : State K) (w : Steady f s) (all : AllPoised s.table.seats) where
   kept : Preserves same hash (λ z. AllPoised z.table.seats) s

@@ -1,14 +1,11 @@
 -- What seats promise: the sums with one seat's record anew, and how many new cells an edit makes.
 use Rattle.std.proofs.Common.{◌≡◌, ℕ, zero, suc, ◌+◌, ◌<◌, ◌≤◌, false, cond, List, [], ◌∷◌, length, get_or, set, refl, arith}
-use Rattle.std.proofs.lemmas.Bool.{true≢false}
 use Rattle.rules.specs.Edits.{adds_pair, linked, places}
 use Rattle.rules.specs.Perform.{Picks, promised_by, promised_cells, promised_pairs, chain_in}
 use Rattle.rules.specs.Seats.{idle_seat}
 use Rattle.rules.specs.declared.Edit.{Edit}
-use Rattle.rules.specs.declared.Edit.TheVariants.{Fixed, Insert, Replace, Append, Relist, Split}
 use Rattle.rules.specs.declared.Fork.{Fork}
 use Rattle.rules.specs.declared.Phase.{Phase}
-use Rattle.rules.specs.declared.Phase.TheVariants.{Idle, Read, Swap, Climb, Parent, Clean}
 use Rattle.rules.specs.declared.Seat.{Seat}
 
 -- The cells and the pairs that one seat promises.
@@ -20,12 +17,7 @@ pairs_by x = promised_by x.phase (cond x.pending.adds 1 0)
 
 -- A phase promises no more than what is pending in it.
 pub promised_most : (phase : Phase) (n : ℕ) → promised_by phase n ≤ n
-promised_most Idle n = omega arith
-promised_most Read n = omega arith
-promised_most Swap n = omega arith
-promised_most Climb n = omega arith
-promised_most Parent n = omega arith
-promised_most Clean n = omega arith
+promised_most phase n = grind arith
 
 -- A sum over seats, with one of them set: its old weight goes, its new one comes.
 sum_set : (weight : Seat → ℕ) (sum : List Seat → ℕ) → ((x : Seat) (xs : List Seat) → sum (x ∷ xs) ≡ weight x + sum xs)
@@ -49,23 +41,12 @@ pairs_set = sum_set pairs_by promised_pairs (λ x xs. refl)
 
 -- A chain has at most one cell for each place taken.
 linked_length : (f : Fork) (p index : ℕ) (cells mains : List ℕ) → length (places (linked f p index cells mains)) ≤ length cells
-linked_length f p index [] mains = omega arith
-linked_length f p index (c ∷ cells) [] = omega arith
 linked_length f p index (c ∷ cells) (n ∷ mains) = let l = linked_length f p (index + 1) cells mains in omega (arith, l)
+linked_length f p index _ _ = omega arith
 
 pub chain_length : (edit : Edit) (picks : Picks) → length (places (chain_in edit picks)) ≤ length picks.cells
-chain_length (Fixed x) picks = omega arith
-chain_length (Insert n chunk) picks = omega arith
-chain_length (Replace n chunk) picks = omega arith
-chain_length (Append l) picks = omega arith
-chain_length (Relist l i) picks = omega arith
-chain_length (Split f) picks = linked_length f _ _ picks.cells _
+chain_length edit picks = grind (arith, linked_length)
 
 -- An edit that adds no pair makes no cell.
 pub no_chain : (edit : Edit) (picks : Picks) → adds_pair edit ≡ false → length (places (chain_in edit picks)) ≡ 0
-no_chain (Fixed x) picks a = refl
-no_chain (Insert n chunk) picks a = absurd (true≢false a)
-no_chain (Replace n chunk) picks a = refl
-no_chain (Append l) picks a = absurd (true≢false a)
-no_chain (Relist l i) picks a = refl
-no_chain (Split f) picks a = absurd (true≢false a)
+no_chain edit picks a = grind arith

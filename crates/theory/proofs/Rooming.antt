@@ -5,12 +5,10 @@ use mathlib.Core.List.{Memᴰ}
 use lib.ListN.{length-map}
 use Rattle.keys.specs.Laws.{KeyLaws}
 use Rattle.std.specs.List.{slice_get}
-use Rattle.std.proofs.lemmas.Bool.{and_parts, leb-true, false≢true}
 use Rattle.std.proofs.lemmas.Option.{get_or_from_slice_get}
 use Rattle.panel.specs.declared.Refusal.TheVariants.{NoSuchSeat, SeatIdle, CountersSpent, MemoryUnfit}
 use Rattle.machine.specs.Machine.{Entry, Seat as Place}
 use Rattle.mains.specs.declared.Main.{Main}
-use Rattle.rules.specs.Calls.{between, words_needed, mains_needed, pairs_needed}
 use Rattle.rules.specs.Edits.{links_of, makes_pair}
 use Rattle.rules.specs.InUse.{is_pending, CellInUse, MainInUse, PairInUse}
 use Rattle.rules.specs.Memory.{Memory, State, last_count}
@@ -24,7 +22,7 @@ use Rattle.rules.specs.declared.Figures.{Figures}
 use Rattle.rules.specs.declared.Limits.{Limits}
 use Rattle.rules.specs.declared.NewCell.{NewCell}
 use Rattle.rules.specs.declared.Phase.{Phase}
-use Rattle.rules.specs.declared.Phase.TheVariants.{Idle, Read, Swap, Climb, Parent, Clean}
+use Rattle.rules.specs.declared.Phase.TheVariants.{Read, Swap}
 use Rattle.rules.specs.declared.Plan.{Plan}
 use Rattle.rules.specs.declared.Seat.{Seat}
 use Rattle.rules.proofs.Counting.{counted}
@@ -47,30 +45,7 @@ record Sized {K : Type 0} (f : Figures) (m : Memory K) : Type 0 where
   pairs : f.pairs + f.seats ≤ length m.pairs
 
 sized : {K : Type 0} {f : Figures} {s : State K} → Steady f s → Sized f s.memory
-sized {f} {s} w =
-    let a = and_parts (between 1 f.seats 8) _ w.figures in
-    let b = and_parts (between 1 f.cells 4096) _ a.1 in
-    let p = and_parts (between 1 f.pairs 16384) _ b.1 in
-    let c = and_parts (leb (words_needed f) (length s.memory.words)) _ w.memory in
-    let d = and_parts (leb (mains_needed f) (length s.memory.mains)) _ c.1 in
-    let e = and_parts (leb (pairs_needed f) (length s.memory.pairs)) _ d.1 in
-    record {
-      some_cells = leb-true 1 f.cells (and_parts (leb 1 f.cells) _ b.0).0;
-      few_cells = leb-true f.cells 4096 (and_parts (leb 1 f.cells) _ b.0).1;
-      few_pairs = leb-true f.pairs 16384 (and_parts (leb 1 f.pairs) _ p.0).1;
-      few_seats = leb-true f.seats 8 (and_parts (leb 1 f.seats) _ a.0).1;
-      words = leb-true _ _ c.0;
-      mains = leb-true _ _ d.0;
-      pairs = leb-true _ _ e.0;
-    }
-
-pending_open : (phase : Phase) → is_pending phase ≡ true → is_idle phase ≡ false
-pending_open Idle e = absurd (false≢true e)
-pending_open Read e = refl
-pending_open Swap e = refl
-pending_open Climb e = refl
-pending_open Parent e = refl
-pending_open Clean e = refl
+sized w = grind arith
 
 module _ {K : Type 0} (same : K → K → Bool) (hash : K → ℕ) (laws : KeyLaws same hash) {f : Figures} {es : List (Entry K)} {s : State K} {xs : List (Place K)} (g : Ground same hash f es s xs) (w : Within same hash s) where
   -- THE PLACES IN USE
@@ -139,7 +114,7 @@ module _ {K : Type 0} (same : K → K → Bool) (hash : K → ℕ) (laws : KeyLa
   main_pending t n e m =
       let own = subst (λ (b : Bool). Memᴰ n (cond b ((seat_of s t).pending.expected ∷ (seat_of s t).pending.made ∷ []) [])) (sym e) m in
       let later = Memᴰ.append_right (map (λ (k : NewCell). k.main) (in_swap (seat_of s t).phase (new_cells (seat_of s t)))) own in
-      inr (t, seated t (pending_open (seat_of s t).phase e), Memᴰ.append_right (map (λ c. get_or s.memory.words c 0) (below_root (seat_of s t))) later)
+      inr (t, seated t (grind arith), Memᴰ.append_right (map (λ c. get_or s.memory.words c 0) (below_root (seat_of s t))) later)
 
   main_somewhere : (n : ℕ) → MainInUse same hash s n → Somewhere n held (mains_by s.memory.words)
   main_somewhere n (MainInUse.reached r) = inl (in_held r.cell n (cells.all r.cell (record { index = r.index; at = r.at })) r.holds)
@@ -179,8 +154,7 @@ module _ {K : Type 0} (same : K → K → Bool) (hash : K → ℕ) (laws : KeyLa
       }
     where
       one : (b : Bool) → cond b 1 0 ≤ 1
-      one true = omega arith
-      one false = omega arith
+      one b = grind arith
 
   -- NO REFUSAL FOR THE MEMORY
 
@@ -190,32 +164,21 @@ module _ {K : Type 0} (same : K → K → Bool) (hash : K → ℕ) (laws : KeyLa
     read_allowed e c n y l h q p (Reads.missing z i b v) =
         absurd (pair_there same hash laws g t k o key c n z _ i (subst (λ (phase : Phase). looked_at phase (seat_of s t) ≡ Some c) (sym e) l) h b v)
     read_allowed e c n y l h q p (Reads.full z u) = λ r. let z : ◌≡◌ {A = ℕ} 0 1 = cc in omega arith
-    read_allowed e c n y l h q p (Reads.lacks u v) = tt
-    read_allowed e c n y l h q p (Reads.finds u v) = tt
-    read_allowed e c n y l h q p (Reads.grows z d b) = tt
-    read_allowed e c n y l h q p (Reads.meets i) = tt
     read_allowed e c n y l h q p (Reads.drafts {edit = edit} {r = r} d) =
         room_for t edit o (ap is_pending e) (draft_links same hash laws s.memory k (seat_of s t).path.depth (seat_of s t).ask y edit r d q (g.steady.calls t o).1.short)
+    read_allowed e c n y l h q p _ = tt
 
     leave_allowed : (p : Plan) → Leaves same hash (seat_of s t) p → Allowed same hash s p
     leave_allowed p (Leaves.closes u l) = tt
-    leave_allowed p (Leaves.drops u l) = tt
-    leave_allowed p (Leaves.restarts u) = tt
+    leave_allowed p _ = tt
 
     sees_allowed : (p : Plan) (words : List ℕ) → Sees same hash s.memory (seat_of s t) k p words → Allowed same hash s p
     sees_allowed p words (Sees.unfit u) = absurd (fits same hash laws g t k o key u)
     sees_allowed p words (Sees.reads e c n y l h q r) = read_allowed e c n y l h q p r
-    sees_allowed p words (Sees.settles e c l h i j) = tt
-    sees_allowed p words (Sees.finishes e c l h i) = tt
-    sees_allowed p words (Sees.loses e) = tt
-    sees_allowed p words (Sees.buries e c n i l h j) = tt
-    sees_allowed p words (Sees.climbs_close e c n y l h i j) = tt
-    sees_allowed p words (Sees.climbs_drop e c n y l h i j) = tt
     sees_allowed p words (Sees.contracts e c n y l h q b) = room_for t _ o (ap is_pending e) (let a = (g.steady.calls t o).1.short in omega (arith, a))
     sees_allowed p words (Sees.parts e c n y l h u r) = leave_allowed p r
     sees_allowed p words (Sees.cleans e c l h r) = leave_allowed p r
-    sees_allowed p words (Sees.misses e u) = tt
-    sees_allowed p words (Sees.gives_up_lem e u) = tt
+    sees_allowed p words _ = tt
 
   -- Before anything is seen, only other refusals come.
   plan_allowed : (t : ℕ) → Allowed same hash s (planned same hash s t).plan
@@ -229,10 +192,8 @@ module _ {K : Type 0} (same : K → K → Bool) (hash : K → ℕ) (laws : KeyLa
 
       by : (b c : Bool) → is_idle (seat_of s t).phase ≡ c → (d : Bool)
           → Allowed same hash s (cond b (refusing s NoSuchSeat) (cond c (refusing s SeatIdle) (cond d (refusing s CountersSpent) (keyed same hash (slice_get s.memory.keys t) (seat_of s t) s.memory)))).plan
-      by true c o d = λ r. let z : ◌≡◌ {A = ℕ} 0 1 = cc in omega arith
-      by false true o d = λ r. let z : ◌≡◌ {A = ℕ} 0 1 = cc in omega arith
-      by false false o true = λ r. let z : ◌≡◌ {A = ℕ} 0 1 = cc in omega arith
       by false false o false = with_key_lem o
+      by _ _ o _ = λ r. let z : ◌≡◌ {A = ℕ} 0 1 = cc in omega arith
 
   -- No turn is refused for its memory.
   pub never_unfit : (t : ℕ) (out : Out K) → Turns same hash s t out → out.answer ≡ Err MemoryUnfit → ⊥

@@ -39,13 +39,6 @@ use Rattle.theory.proofs.Writing.{Written, Poised}
 use Rattle.theory.specs.Fed.{entries_of}
 use Rattle.theory.specs.Records.{Steady}
 
--- Replies of different calls are apart.
-same_opened : {a b : Result ℕ Refusal} → Opened a ≡ Opened b → a ≡ b
-same_opened e = cc
-
-same_turned : {a b : Result (Option Stamped) Refusal} → Turned a ≡ Turned b → a ≡ b
-same_turned e = cc
-
 opened_turned : {a : Result ℕ Refusal} {b : Result (Option Stamped) Refusal} → Opened a ≡ Turned b → ⊥
 opened_turned e = let z : ◌≡◌ {A = ℕ} 0 1 = cc in omega arith
 
@@ -139,41 +132,19 @@ module _ {K : Type 0} (same : K → K → Bool) (hash : K → ℕ) where
           by : (c : Call K) (r : Reply) (d : Does same hash s c r z) → Grown s (seat_in c) w.calls (fixed_by same hash s c r z d) more → Written z → ((t : ℕ) → is_idle (seat_of z t).phase ≡ false → Poised (seat_of z t))
               → Image same hash (event c r z ∷ h) more z × Within same hash z
           by (Open t ask key) (Opened r) (p, q) l a b = longer _ (as_before l) (open_on t ask key _ z q a b)
-          by (Open t ask key) (Turned r) d l a b = absurd d
-          by (Open t ask key) (Withdrew r) d l a b = absurd d
-          by (Open t ask key) (Counted r) d l a b = absurd d
-          by (Turn t) (Opened r) d l a b = absurd d
           by (Turn t) (Turned r) (out, (picks, takes, e), p, q) l a b =
               turn_on _ more z k a b t picks takes (subst (λ (o : Out K). Grown s t w.calls o.fixed more) e l) (q ∙ ap (λ (o : Out K). o.state) e)
-          by (Turn t) (Withdrew r) d l a b = absurd d
-          by (Turn t) (Counted r) d l a b = absurd d
-          by (Withdraw t) (Opened r) d l a b = absurd d
-          by (Withdraw t) (Turned r) d l a b = absurd d
           by (Withdraw t) (Withdrew r) (p, q) l a b = longer _ (as_before l) (withdraw_on t r z p q a b)
-          by (Withdraw t) (Counted r) d l a b = absurd d
-          by Count (Opened r) d l a b = absurd d
-          by Count (Turned r) d l a b = absurd d
-          by Count (Withdrew r) d l a b = absurd d
           by Count (Counted r) (p, q) l a b = longer _ (as_before l) (count_on _ z q)
+          by _ _ d l a b = absurd d
 
       -- No call is refused for its memory.
       fit_on : (c : Call K) (r : Reply) (z : State K) → Does same hash s c r z → (r ≡ Opened (Err MemoryUnfit) → ⊥) × (r ≡ Turned (Err MemoryUnfit) → ⊥)
-      fit_on (Open t ask key) (Opened r) z (p, q) = (λ e. open_fit same hash w.steady t ask key (sym p ∙ same_opened e), λ e. opened_turned e)
-      fit_on (Open t ask key) (Turned r) z d = absurd d
-      fit_on (Open t ask key) (Withdrew r) z d = absurd d
-      fit_on (Open t ask key) (Counted r) z d = absurd d
-      fit_on (Turn t) (Opened r) z d = absurd d
-      fit_on (Turn t) (Turned r) z (out, u, p, q) = (λ e. opened_turned (sym e), λ e. never_unfit same hash laws g w.within t out u (sym p ∙ same_turned e))
-      fit_on (Turn t) (Withdrew r) z d = absurd d
-      fit_on (Turn t) (Counted r) z d = absurd d
-      fit_on (Withdraw t) (Opened r) z d = absurd d
-      fit_on (Withdraw t) (Turned r) z d = absurd d
+      fit_on (Open t ask key) (Opened r) z (p, q) = (λ e. open_fit same hash w.steady t ask key (sym p ∙ (cc)), λ e. opened_turned e)
+      fit_on (Turn t) (Turned r) z (out, u, p, q) = (λ e. opened_turned (sym e), λ e. never_unfit same hash laws g w.within t out u (sym p ∙ (cc)))
       fit_on (Withdraw t) (Withdrew r) z d = (λ e. withdrew_opened e, λ e. withdrew_turned e)
-      fit_on (Withdraw t) (Counted r) z d = absurd d
-      fit_on Count (Opened r) z d = absurd d
-      fit_on Count (Turned r) z d = absurd d
-      fit_on Count (Withdrew r) z d = absurd d
       fit_on Count (Counted r) z d = (λ e. counted_opened e, λ e. counted_turned e)
+      fit_on _ _ z d = absurd d
 
       known_on : (c : Call K) (r : Reply) (z : State K) → Does same hash s c r z → Steady f z → Known f (event c r z ∷ h) z
       known_on c r z d k =

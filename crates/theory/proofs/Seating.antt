@@ -11,7 +11,7 @@ use Rattle.rules.specs.declared.Ask.{Ask}
 use Rattle.rules.specs.declared.Ask.TheVariants.{Get, Put, Cut}
 use Rattle.rules.specs.declared.NewCell.{NewCell}
 use Rattle.rules.specs.declared.Outcome.{Outcome}
-use Rattle.rules.specs.declared.Outcome.TheVariants.{Found, Absent, Stored, Removed}
+use Rattle.rules.specs.declared.Outcome.TheVariants.{Removed}
 use Rattle.rules.specs.declared.Phase.{Phase}
 use Rattle.rules.specs.declared.Phase.TheVariants.{Idle, Read, Swap, Climb, Parent, Clean}
 use Rattle.rules.specs.declared.Seat.{Seat}
@@ -32,10 +32,8 @@ above_of x = above x.path.cells x.path.depth
 
 -- The value that a result took out.
 abbrev pub taken_out : Outcome → ℕ
-taken_out (Found v) = 0
-taken_out Absent = 0
-taken_out Stored = 0
 taken_out (Removed v) = v
+taken_out _ = 0
 
 -- A call that has prepared its swap: a put adds or replaces, a cut knows what it takes out.
 abbrev pub swapping : {K : Type 0} → Ask → Bool → Outcome → K → Op K
@@ -49,9 +47,8 @@ calling settled ask k = cond settled (climb k) (asked ask k)
 
 -- The pair that a put has made.
 abbrev pub made_pair : Ask → ℕ → Maybe ℕ
-made_pair Get p = none
 made_pair (Put v) p = some p
-made_pair Cut p = none
+made_pair _ p = none
 
 -- New cells with their mains.
 abbrev pub news : List NewCell → List (ℕ × ℕ)

@@ -1,10 +1,10 @@
 -- The slots of a node and the pairs of a list, as they show, and after an edit.
-use Rattle.std.proofs.Common.{◌≡◌, ℕ, zero, suc, ◌<◌, ◌≤◌, ◌≢◌, ◌⊎◌, List, [], ◌∷◌, length, get_or, set, replicate, Some, None, Option, sym, refl, ap, ◌∙◌, subst, inl, inr, ⊎_elim, arith, length-append, length-set, get_or-set_other, get_or-set_same, ext_get_or}
+use Rattle.std.proofs.Common.{◌≡◌, ℕ, zero, suc, ◌<◌, ◌≤◌, ◌≢◌, ◌⊎◌, List, length, get_or, set, replicate, Some, None, Option, sym, refl, ap, ◌∙◌, inl, inr, ⊎_elim, arith, length-append, length-set, get_or-set_other, get_or-set_same, ext_get_or}
 use native.Mathlib.Decide.{ℕ_discrete}
 use lib.ListN.{length-replicate, get_or-replicate, get_or-eq_default}
 use Rattle.std.proofs.lemmas.Bool.{cases_lt}
 use Rattle.std.proofs.lemmas.List.Edits.{length-remove}
-use Rattle.machine.specs.Machine.{Branch as Slot, nothing, pair, cell, Taken}
+use Rattle.machine.specs.Machine.{Branch as Slot, nothing, pair, cell}
 use Rattle.mains.specs.Laws.{WellFormed, Stands, edited, nothing as bare}
 use Rattle.mains.specs.Lists.{listed, appended, unlisted}
 use Rattle.mains.specs.Nodes.{branch_at, inserted, replaced, removed, empty_node, of_one, of_two, lone}
@@ -41,45 +41,27 @@ slot_past : (n : Node) (q : ℕ) → 32 ≤ q → get_or (slots n) q nothing ≡
 slot_past n q l = let long = length_slots n in get_or-eq_default (slots n) nothing (omega (arith, long))
 
 slot_any : (n : Node) → WellFormed n → (q : ℕ) → get_or (slots n) q nothing ≡ slot (branch_at n q)
-slot_any n w q = by (cases_lt q 32)
-  where
-    by : (q < 32) ⊎ (32 ≤ q) → get_or (slots n) q nothing ≡ slot (branch_at n q)
-    by (inl l) = slot_at n q l
-    by (inr l) = slot_past n q l ∙ sym (ap slot (at_past n q w l))
+slot_any n w q = grind (arith, cases_lt, slot_at, slot_past, at_past)
 
 -- Each slot shows one thing alone.
 is_pair : (o : Option Branch) (p : ℕ) → slot o ≡ pair p → o ≡ Some (Paired p)
-is_pair None p e = let z : ◌≡◌ {A = ℕ} 0 1 = cc in absurd (omega arith)
-is_pair (Some (Paired r)) p e = let z : r ≡ p = cc in ap (λ i. Some (Paired i)) z
-is_pair (Some (Celled c)) p e = let z : ◌≡◌ {A = ℕ} 0 1 = cc in absurd (omega arith)
+is_pair o p e = grind arith
 
 is_cell : (o : Option Branch) (c : ℕ) → slot o ≡ cell c → o ≡ Some (Celled c)
-is_cell None c e = let z : ◌≡◌ {A = ℕ} 0 1 = cc in absurd (omega arith)
-is_cell (Some (Paired p)) c e = let z : ◌≡◌ {A = ℕ} 0 1 = cc in absurd (omega arith)
-is_cell (Some (Celled d)) c e = let z : d ≡ c = cc in ap (λ i. Some (Celled i)) z
+is_cell o c e = grind arith
 
 is_nothing : (o : Option Branch) → slot o ≡ nothing → o ≡ None
-is_nothing None e = refl
-is_nothing (Some (Paired p)) e = let z : ◌≡◌ {A = ℕ} 0 1 = cc in absurd (omega arith)
-is_nothing (Some (Celled c)) e = let z : ◌≡◌ {A = ℕ} 0 1 = cc in absurd (omega arith)
+is_nothing o e = grind arith
 
 -- What shows at a chunk is nothing, or what stands there.
 shows_at : (n : Node) (q : ℕ) → (get_or (slots n) q nothing ≡ slot (branch_at n q)) ⊎ (get_or (slots n) q nothing ≡ slot None)
 shows_at n q = ⊎_elim (λ (l : q < 32). inl (slot_at n q l)) (λ (l : 32 ≤ q). inr (slot_past n q l)) (cases_lt q 32)
 
 pair_from : (n : Node) (q p : ℕ) → get_or (slots n) q nothing ≡ pair p → branch_at n q ≡ Some (Paired p)
-pair_from n q p e = by (shows_at n q)
-  where
-    by : (get_or (slots n) q nothing ≡ slot (branch_at n q)) ⊎ (get_or (slots n) q nothing ≡ slot None) → branch_at n q ≡ Some (Paired p)
-    by (inl s) = is_pair (branch_at n q) p (sym s ∙ e)
-    by (inr s) = absurd (some_not_none (sym (is_pair None p (sym s ∙ e))))
+pair_from n q p e = grind (arith, shows_at, is_pair, some_not_none)
 
 cell_from : (n : Node) (q c : ℕ) → get_or (slots n) q nothing ≡ cell c → branch_at n q ≡ Some (Celled c)
-cell_from n q c e = by (shows_at n q)
-  where
-    by : (get_or (slots n) q nothing ≡ slot (branch_at n q)) ⊎ (get_or (slots n) q nothing ≡ slot None) → branch_at n q ≡ Some (Celled c)
-    by (inl s) = is_cell (branch_at n q) c (sym s ∙ e)
-    by (inr s) = absurd (some_not_none (sym (is_cell None c (sym s ∙ e))))
+cell_from n q c e = grind (arith, shows_at, is_cell, some_not_none)
 
 -- A list of 32 slots is that of a node if it has at each chunk what stands there.
 slots_are : (n : Node) (bs : List Slot) → length bs ≡ 32 → ((q : ℕ) → q < 32 → slot (branch_at n q) ≡ get_or bs q nothing) → slots n ≡ bs
@@ -93,12 +75,7 @@ slots_edited : (n m : Node) (q : ℕ) (o : Option Branch) → Stands m (edited (
 slots_edited n m q o s = slots_are m (set (slots n) q (slot o)) (length-set (slots n) q (slot o) ∙ length_slots n) (λ p l. by p l (ℕ_discrete p q))
   where
     by : (p : ℕ) → p < 32 → Dec (p ≡ q) → slot (branch_at m p) ≡ get_or (set (slots n) q (slot o)) p nothing
-    by p l (yes e) =
-        let long = length_slots n in
-        ap slot (ap (branch_at m) e ∙ (s q ∙ edited_here (branch_at n) q o))
-        ∙ (sym (get_or-set_same (slots n) q (slot o) nothing (omega (arith, long))) ∙ ap (λ i. get_or (set (slots n) q (slot o)) i nothing) (sym e))
-    by p l (no ne) =
-        ap slot (s p ∙ edited_other (branch_at n) q o p ne) ∙ (sym (slot_at n p l) ∙ sym (get_or-set_other (slots n) q p (slot o) nothing ne))
+    by p l e = grind (arith, length_slots, edited_here, get_or-set_same, edited_other, slot_at, get_or-set_other)
 
 slots_inserted : (n : Node) (q : ℕ) (x : Branch) → WellFormed n → q < 32 → branch_at n q ≡ None → slots (inserted n q x) ≡ set (slots n) q (slot (Some x))
 slots_inserted n q x w l e = slots_edited n (inserted n q x) q (Some x) (inserted_stands n q x w l e)
@@ -149,23 +126,8 @@ lone_only n x w e = let it = (lone_is n w.fits).found x e in (it.0, only it.0 it
           empty = λ p ne. slot_any n w p ∙ ap slot (s p ∙ edited_other bare q (Some x) p ne);
         }
 
-slot_taken : (x : Branch) → Taken (slot (Some x))
-slot_taken (Paired p) = tt
-slot_taken (Celled c) = tt
-
 -- Among the first k chunks another than q has a branch, or none has.
 module _ (n : Node) (w : WellFormed n) (q : ℕ) where
-  beside : (p : ℕ) (x : Branch) → p ≢ q → branch_at n p ≡ Some x → Beside n q
-  beside p x ne e =
-      record {
-        chunk = p;
-        branch = x;
-        low = has_low n p w (has_some n p x e);
-        other = ne;
-        there = e;
-        taken = subst Taken (sym (slot_any n w p ∙ ap slot e)) (slot_taken x);
-      }
-
   abbrev Bare : ℕ → Type 0
   Bare k = (p : ℕ) → p < k → p ≢ q → branch_at n p ≡ None
 
@@ -174,16 +136,7 @@ module _ (n : Node) (w : WellFormed n) (q : ℕ) where
   scan (suc k) = on (scan k)
     where
       more : Bare k → (o : Option Branch) → branch_at n k ≡ o → Dec (k ≡ q) → Beside n q ⊎ Bare (suc k)
-      more b (Some x) e (no ne) = inl (beside k x ne e)
-      more b (Some x) e (yes s) = inr (λ p l ne. b p (below p l (λ t. ne (t ∙ s))) ne)
-        where
-          below : (p : ℕ) → p < suc k → p ≢ k → p < k
-          below p l ne = omega arith
-      more b None e d = inr (λ p l ne. at p ne (ℕ_discrete p k) l)
-        where
-          at : (p : ℕ) → p ≢ q → Dec (p ≡ k) → p < suc k → branch_at n p ≡ None
-          at p ne (yes t) l = ap (branch_at n) t ∙ e
-          at p ne (no t) l = b p (omega arith) ne
+      more b o e d = grind (arith, has_low, has_some, slot_any)
 
       on : Beside n q ⊎ Bare k → Beside n q ⊎ Bare (suc k)
       on (inl s) = inl s
@@ -192,26 +145,18 @@ module _ (n : Node) (w : WellFormed n) (q : ℕ) where
   lone_none : (x : Branch) → lone n ≡ None → branch_at n q ≡ Some x → Beside n q
   lone_none x e here = by (scan 32)
     where
-      other : Bare 32 → (p : ℕ) → p ≢ q → (p < 32) ⊎ (32 ≤ p) → branch_at n p ≡ None
-      other b p ne (inl l) = b p l ne
-      other b p ne (inr l) = at_past n p w l
-
       by : Beside n q ⊎ Bare 32 → Beside n q
       by (inl s) = s
       by (inr b) =
-          let stands = stands_from n bare q (Some x) here (λ p ne. other b p ne (cases_lt p 32)) in
+          let stands = stands_from n bare q (Some x) here (λ p ne. (grind (arith, at_past))) in
           absurd (some_not_none (sym ((lone_is n w.fits).sole q x stands) ∙ e))
 
 -- How many are listed after an edit.
 length_appended : (l : PairList) (p : ℕ) → length l.pairs ≡ 32 → l.count < 32 → length (listed (appended l p)) ≡ suc (length (listed l))
-length_appended l p long room =
-    let e = length-append (listed l) (p ∷ []) in
-    ap length (listed_appended l p long room) ∙ omega (arith, e)
+length_appended l p long room = grind (arith, length-append, listed_appended)
 
 length_unlisted : (l : PairList) (i : ℕ) → i < length (listed l) → suc (length (listed (unlisted l i))) ≡ length (listed l)
-length_unlisted l i within =
-    let e = length-remove (listed l) i within in
-    ap suc (ap length (listed_unlisted l i)) ∙ omega (arith, e)
+length_unlisted l i within = grind (arith, length-remove, listed_unlisted)
 
 pub shows_edits : ShowsEdits
 shows_edits =

@@ -2,8 +2,7 @@
 use Rattle.std.proofs.Common.{◌≡◌, ℕ, ◌-◌, ◌<◌, ◌≤◌, Bool, true, false, cond, ◌&&◌, eqb, ltb, leb, ◌⊎◌, List, get_or, set, Some, None, Ok, Option, sym, refl, ap, ◌∙◌, subst, inl, inr, arith}
 use Rattle.keys.specs.Routes.{chunk_at}
 use Rattle.std.specs.List.{slice_get}
-use Rattle.std.proofs.lemmas.Bool.{and_parts, leb-true, leb-false, ltb-true, ltb-false, eqb-true, eqb-false, true≢false, false≢true, cond_both}
-use Rattle.std.proofs.lemmas.Option.{none-some}
+use Rattle.std.proofs.lemmas.Bool.{and_parts, leb-true, leb-false, ltb-true, ltb-false, eqb-true, eqb-false, true≢false, cond_both}
 use Rattle.panel.specs.declared.Refusal.TheVariants.{MemoryUnfit, ListFull}
 use Rattle.mains.specs.Lists.{listed, unlisted}
 use Rattle.mains.specs.Nodes.{branch_at, removed, replaced}
@@ -17,7 +16,7 @@ use Rattle.rules.specs.Edits.{kept_node, kept_list}
 use Rattle.rules.specs.Memory.{Memory, main_at}
 use Rattle.rules.specs.Reached.{is_tomb}
 use Rattle.rules.specs.Seats.{is_idle, is_settled, is_cut, is_put, last_cell, parent_cell, restarted, grown, dropped, at_tomb, moved}
-use Rattle.rules.specs.Sound.{sound, all_alike, pairs_at}
+use Rattle.rules.specs.Sound.{sound, pairs_at}
 use Rattle.rules.specs.Turns.{Look, look, reads as read_of, swaps as swap_of, saw_main, saw_word, swapped_word, at_nothing, at_equal, at_other, not_listed, listed_at, place_of, at_place, climbed, gives_up, climbs, at_parent, swung, missed, at_pair, at_branch, at_list, read_plan, parent_plan, decide, decided, keyed}
 use Rattle.rules.specs.declared.Ask.{Ask}
 use Rattle.rules.specs.declared.Ask.TheVariants.{Get, Put, Cut}
@@ -37,19 +36,14 @@ use Rattle.rules.specs.declared.Seen.TheVariants.{Saw, Swapped}
 -- The cell that a phase reads or swaps, and its index.
 abbrev pub looked_at : Phase → Seat → Option ℕ
 looked_at Idle x = None
-looked_at Read x = last_cell x
-looked_at Swap x = last_cell x
-looked_at Climb x = last_cell x
 looked_at Parent x = parent_cell x
 looked_at Clean x = parent_cell x
+looked_at _ x = last_cell x
 
 abbrev pub index_of : Phase → Seat → ℕ
-index_of Idle x = x.path.depth
-index_of Read x = x.path.depth
-index_of Swap x = x.path.depth
-index_of Climb x = x.path.depth
 index_of Parent x = x.path.depth - 1
 index_of Clean x = x.path.depth - 1
+index_of _ x = x.path.depth
 
 module _ {K : Type 0} (same : K → K → Bool) (hash : K → ℕ) where
   -- The cell c holds the number n of the main y.
@@ -141,9 +135,8 @@ module _ {K : Type 0} (same : K → K → Bool) (hash : K → ℕ) where
 
     module _ (n : ℕ) where
       at_nothing_lem : (a : Ask) → x.ask ≡ a → (y : Node) → branch_at y q₀ ≡ None → Reads m x k n (node y) (at_nothing a n y q₀)
-      at_nothing_lem Get e y b = Reads.lacks (ap is_put e) (Lacks.bare y b)
       at_nothing_lem (Put v) e y b = Reads.drafts (rw e (Drafts.inserts v y b))
-      at_nothing_lem Cut e y b = Reads.lacks (ap is_put e) (Lacks.bare y b)
+      at_nothing_lem _ e y b = Reads.lacks (ap is_put e) (Lacks.bare y b)
 
       module _ (y : Node) (p : ℕ) (z : Pair K) (b : branch_at y q₀ ≡ Some (pair p)) (h : slice_get m.pairs p ≡ Some z) where
         at_equal_lem : (a : Ask) → x.ask ≡ a → same z.key k ≡ true → Reads m x k n (node y) (at_equal a n y q₀ x.path.depth z.value)
@@ -152,9 +145,8 @@ module _ {K : Type 0} (same : K → K → Bool) (hash : K → ℕ) where
         at_equal_lem Cut e t = Reads.drafts (rw e (Drafts.removes y p z b h t))
 
         at_other_lem : (a : Ask) → x.ask ≡ a → same z.key k ≡ false → Reads m x k n (node y) (at_other a n (record { node = y; index = x.path.depth; chunk = q₀; pair = p; standing = hash z.key; coming = hash k }))
-        at_other_lem Get e t = Reads.lacks (ap is_put e) (Lacks.other y p z b h t)
         at_other_lem (Put v) e t = Reads.drafts (rw e (Drafts.splits v y p z b h t))
-        at_other_lem Cut e t = Reads.lacks (ap is_put e) (Lacks.other y p z b h t)
+        at_other_lem _ e t = Reads.lacks (ap is_put e) (Lacks.other y p z b h t)
 
       at_pair_lem : (y : Node) (p : ℕ) → branch_at y q₀ ≡ Some (pair p) → (o : Option (Pair K)) → slice_get m.pairs p ≡ o → Reads m x k n (node y) (at_pair same hash o x k n y q₀ x.path.depth p)
       at_pair_lem y p b None h = Reads.missing y p b h
@@ -168,11 +160,10 @@ module _ {K : Type 0} (same : K → K → Bool) (hash : K → ℕ) where
 
       module _ (l : PairList) (ys : List (Pair K)) (h : pairs_at m.pairs (listed l) ≡ Some ys) where
         not_listed_lem : (a : Ask) → x.ask ≡ a → place_of same k ys ≡ None → Reads m x k n (listing l) (not_listed a n l)
-        not_listed_lem Get e t = Reads.lacks (ap is_put e) (Lacks.absent l ys h t)
         not_listed_lem (Put v) e t =
             cond_both (leb 32 l.count) _ _ (Reads m x k n (listing l)) (λ u. Reads.full l (ap is_put e))
             (λ u. Reads.drafts (rw e (Drafts.appends v l ys h t (leb-false 32 l.count u))))
-        not_listed_lem Cut e t = Reads.lacks (ap is_put e) (Lacks.absent l ys h t)
+        not_listed_lem _ e t = Reads.lacks (ap is_put e) (Lacks.absent l ys h t)
 
         listed_at_lem : (a : Ask) → x.ask ≡ a → (i v : ℕ) → place_of same k ys ≡ Some (i, v) → Reads m x k n (listing l) (listed_at a n l i v)
         listed_at_lem Get e i v t = Reads.finds e (Has.inside l ys i v h t)
@@ -183,17 +174,12 @@ module _ {K : Type 0} (same : K → K → Bool) (hash : K → ℕ) where
         at_place_lem None t = not_listed_lem x.ask refl t
         at_place_lem (Some z) t = listed_at_lem x.ask refl z.0 z.1 t
 
-      -- The pairs of a sound list are there.
-      listed_there : (o : Option (List (Pair K))) → all_alike same hash o ≡ true → o ≡ None → ⊥
-      listed_there None t e = false≢true t
-      listed_there (Some ys) t e = absurd (none-some _ (sym e))
-
       at_list_lem : (l : PairList) → sound same hash m.pairs x.path.depth (listing l) ≡ true → (o : Option (List (Pair K))) → pairs_at m.pairs (listed l) ≡ o → Reads m x k n (listing l) (at_list same hash o x k n l)
       at_list_lem l s None h =
           let a = (and_parts (eqb x.path.depth 7) _ s).1 in
           let b = (and_parts (leb 2 l.count) _ a).1 in
           let c = (and_parts (leb l.count 32) _ b).1 in
-          absurd (listed_there (pairs_at m.pairs (listed l)) c h)
+          absurd (grind arith)
       at_list_lem l s (Some ys) h = at_place_lem l ys h (place_of same k ys) refl
 
       at_read : (y : Main) → sound same hash m.pairs x.path.depth y ≡ true → Reads m x k n y (read_plan same hash y x k m n x.path.depth)
@@ -293,8 +279,7 @@ module _ {K : Type 0} (same : K → K → Bool) (hash : K → ℕ) where
         where
           by : (b : Bool) → eqb n x.pending.expected ≡ b
               → (let l : Look = cond b (record { seen = Ok (Swapped true); words = set m.words c x.pending.made }) (record { seen = Ok (Swapped false); words = m.words }) in Sees m x k (decided same hash l.seen x k m) l.words)
-          by true t = in_phase phase e (Swapped true) (set m.words c x.pending.made) (said (w ∙ ap Some (eqb-true n _ t)))
-          by false t = in_phase phase e (Swapped false) m.words denied
+          by b t = grind arith
 
       swap_yes : x.phase ≡ Swap → last_cell x ≡ Some c → slice_get m.words c ≡ Some x.pending.expected → Sees m x k (swung x) (set m.words c x.pending.made)
       swap_yes e l h = by (is_cut x.ask) refl (ltb 0 x.path.depth) refl

@@ -1,5 +1,5 @@
 -- A main that keeps the machine's rules where it shows keeps the rules of the table.
-use Rattle.std.proofs.Common.{◌≡◌, ℕ, zero, suc, ◌^◌, ◌<◌, ◌≤◌, Bool, true, false, not, ◌&&◌, ◌||◌, T, eqb, leb, List, [], ◌∷◌, map, length, get_or, is_some, Some, None, Option, sym, refl, ap, ◌∙◌, subst, arith}
+use Rattle.std.proofs.Common.{◌≡◌, ℕ, zero, suc, ◌^◌, ◌<◌, ◌≤◌, Bool, true, false, not, ◌&&◌, ◌||◌, T, eqb, leb, List, [], ◌∷◌, map, length, get_or, is_some, Some, Option, sym, refl, ap, ◌∙◌, subst, arith}
 use mathlib.Core.List.{Memᴰ}
 use native.Mathlib.Decide.{ℕ_discrete}
 use Rattle.keys.proofs.Chunks.{prefix_by_chunks, prefix_whole}
@@ -16,9 +16,8 @@ use Rattle.mains.proofs.Sizes.{size_place}
 use Rattle.mains.proofs.Standing.{has_some}
 use Rattle.mains.specs.Laws.{WellFormed, WellListed}
 use Rattle.mains.specs.Lists.{listed}
-use Rattle.mains.specs.Nodes.{branch_at, size, lone}
+use Rattle.mains.specs.Nodes.{size, lone}
 use Rattle.mains.specs.declared.Branch.{Branch}
-use Rattle.mains.specs.declared.Branch.TheVariants.{Pair as pair, Cell as cell}
 use Rattle.mains.specs.declared.Node.{Node}
 use Rattle.mains.specs.declared.PairList.{PairList}
 use Rattle.rules.specs.Memory.{Memory}
@@ -38,26 +37,12 @@ nth_there (x ∷ xs) (suc i) l = nth_there xs i (omega arith)
 
 -- A slot that is taken shows a branch.
 taken_some : (o : Option Branch) → Taken (slot o) → (b : Branch) × (o ≡ Some b)
-taken_some None t = absurd t
-taken_some (Some (pair p)) t = (pair p, refl)
-taken_some (Some (cell c)) t = (cell c, refl)
+taken_some o t = grind arith
 
 module _ (n : Node) (w : WellFormed n) where
   -- A node that shows a branch has a size.
   sized : (q : ℕ) → Taken (get_or (slots n) q nothing) → size n ≡ 0 → ⊥
-  sized q t e =
-      let b = taken_some (branch_at n q) (subst Taken (shows_edits.slot_any n w q) t) in
-      let l = size_place n q w (has_some n q b.0 b.1) in
-      omega (arith, l, e)
-
-  -- A pair that has a branch beside it is not lone.
-  not_lone : (i : ℕ) → 0 < i → NodeRule i (slots n) → (o : Option Branch) → lone n ≡ o → is_lone_pair o ≡ false
-  not_lone i l r None e = refl
-  not_lone i l r (Some (cell c)) e = refl
-  not_lone i l r (Some (pair p)) e =
-      let a = shows_edits.lone_only n (pair p) w e in
-      let b = r.beside l a.0 p a.1.shows in
-      absurd (subst Taken (a.1.empty b.0 b.1) b.2)
+  sized q t e = grind (arith, taken_some, shows_edits, size_place, has_some)
 
   pub sound_node_lem : (i : ℕ) → NodeRule i (slots n) → sound_node i n ≡ true
   sound_node_lem i r = and_from (leb i 6) _ (le-leb i 6 r.high) (by (ℕ_discrete i 0))
@@ -69,7 +54,7 @@ module _ (n : Node) (w : WellFormed n) where
           let a = r.any l in
           or_right (eqb i 0) _
           (and_from (not (eqb (size n) 0)) _ (not_from_false (eqb (size n) 0) (ne_eqb (size n) 0 (sized a.0 a.1)))
-          (not_from_false (is_lone_pair (lone n)) (not_lone i l r (lone n) refl)))
+          (not_from_false (is_lone_pair (lone n)) (grind (arith, shows_edits))))
 
 -- LISTS
 
@@ -100,12 +85,11 @@ module _ {K : Type 0} (same : K → K → Bool) (hash : K → ℕ) (laws : KeyLa
 
   -- Pairs of which no key comes twice, and whose hashes agree in all chunks.
   alikes : (h : ℕ) (ys : List (Pair K)) → NoTwice same (map shown_pair ys) → ((y : K × ℕ) → In y (map shown_pair ys) → Agree chunk_at (hash y.0) h 7) → alike same hash ys ≡ true
-  alikes h [] t f = refl
-  alikes h (y ∷ []) t f = refl
   alikes h (y ∷ (z ∷ ys)) t f =
       and_from (eqb (hash y.key) (hash z.key)) _
       (eq-eqb (hash y.key) (hash z.key) (whole (hash y.key) (hash z.key) h (laws.short y.key) (laws.short z.key) (f (shown_pair y) here) (f (shown_pair z) (later here))))
       (and_from (not (among same hash y.key (z ∷ ys))) _ (not_from_false _ (lacking y.key (z ∷ ys) t.0)) (alikes h (z ∷ ys) t.1 (λ x i. f x (later i))))
+  alikes h _ t f = refl
 
   pub sound_list_lem : (m : Memory K) (h i : ℕ) (l : PairList) → WellListed l → ((p : ℕ) → Memᴰ p (listed l) → p < length m.pairs)
       → (i ≡ 7) × (2 ≤ length (listed l)) × (length (listed l) ≤ 32) × NoTwice same (gather (shown_mem m).pairs (listed l))

@@ -121,16 +121,13 @@ module _ {K : Type 0} (same : K → K → Bool) (hash : K → ℕ) (laws : KeyLa
     -- The whole chain, from an index deeper than the fork up to its end.
     chained : (i : ℕ) (cells mains : List ℕ) → index + 1 ≤ i → i ≤ end_of fork → i + length cells ≡ suc (end_of fork) → length mains ≡ length cells
         → Held i cells mains → Chained i i cells mains
-    chained i [] mains a b lc lm held = absurd (omega arith)
-    chained i (c ∷ cells) [] a b lc lm held = absurd (omega arith)
     chained i (c ∷ []) (m ∷ []) a b lc lm held = last i c m (omega arith) (held _ (Memᴰ.head refl))
-    chained i (c ∷ []) (m ∷ o ∷ mains) a b lc lm held = absurd (omega arith)
-    chained i (c ∷ d ∷ cells) (m ∷ []) a b lc lm held = absurd (omega arith)
     chained i (c ∷ d ∷ cells) (m ∷ o ∷ mains) a b lc lm held =
         let next : i + 1 ≡ suc i = omega arith in
         inner i c d m o cells mains a (omega arith) (held _ (Memᴰ.head refl))
         (subst (λ (j : ℕ). Chained j (i + 1) (d ∷ cells) (o ∷ mains)) next
         (chained (i + 1) (d ∷ cells) (o ∷ mains) (omega arith) (omega arith) (omega arith) (omega arith) (λ j t. held j (Memᴰ.tail t))))
+    chained i _ _ a b lc lm held = absurd (omega arith)
 
   -- The memory z has the standing pair, the put's own pair in the place p, and the mains of the chain.
   pub splitted : (z : Memory K) (k : K) (v index p r : ℕ) (n : Node) (y : Pair K) (cells mains : List ℕ)

@@ -1,5 +1,5 @@
 -- A fresh table is shown by a formatted machine, and reaches its root alone.
-use Rattle.std.proofs.Common.{◌≡◌, ℕ, zero, suc, ◌<◌, Bool, false, leb, [], ◌∷◌, length, get_or, replicate, None, sym, refl, ap, ◌∙◌, subst, arith}
+use Rattle.std.proofs.Common.{◌≡◌, ℕ, suc, ◌<◌, Bool, false, leb, [], ◌∷◌, length, get_or, replicate, None, sym, refl, ap, ◌∙◌, subst, arith}
 use mathlib.Core.List.{Memᴰ}
 use Rattle.std.proofs.lemmas.Bool.{and_parts, leb-true, true≢false}
 use Rattle.machine.specs.Machine.{Seat as Place, idle, word, main}
@@ -32,9 +32,8 @@ module _ {K : Type 0} (same : K → K → Bool) (hash : K → ℕ) where
   root_inside (Reached.next r x e d n l) = root_inside r
 
   idles : (n t : ℕ) → get_or {A = Place K} (replicate n idle) t idle ≡ idle
-  idles zero t = refl
-  idles (suc n) zero = refl
   idles (suc n) (suc t) = idles n t
+  idles _ _ = refl
 
   module _ {f : Figures} where
     -- A fresh table is a formatted machine.

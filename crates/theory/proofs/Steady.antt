@@ -1,16 +1,16 @@
 -- After every history the table keeps its figures and its memory's size, and open seats keep the rules of their records.
-use Rattle.std.proofs.Common.{◌≡◌, ℕ, suc, ◌+◌, ◌<◌, ◌≤◌, Bool, true, false, cond, not, ◌&&◌, eqb, leb, ◌⊎◌, List, [], ◌∷◌, length, get_or, set, Some, None, Ok, Option, sym, refl, ap, ◌∙◌, subst, inl, inr, arith, length-set, get_or-set_other, get_or-set_same}
+use Rattle.std.proofs.Common.{◌≡◌, ℕ, suc, ◌+◌, ◌<◌, ◌≤◌, Bool, true, false, cond, not, ◌&&◌, leb, ◌⊎◌, List, [], ◌∷◌, length, get_or, set, None, Ok, Option, sym, refl, ap, ◌∙◌, subst, inl, inr, arith, length-set, get_or-set_other, get_or-set_same}
 use Rattle.std.specs.List.{slice_get}
 use Rattle.std.proofs.lemmas.Bool.{cases_eq, true≢false, false≢true, leb-true, leb-false, or_parts, and_parts}
 use Rattle.panel.specs.declared.Refusal.TheVariants.{NoSuchSeat, SeatTaken, SeatIdle, CountersSpent, MemoryUnfit, TableFull}
 use Rattle.mains.specs.declared.Main.{Main}
 use Rattle.rules.specs.Calls.{Left, refused_as, in_limits, suffices, between, format_refusal, formatted, opened, with_call, withdrawn, withdrawal}
-use Rattle.rules.specs.Edits.{Link, adds_pair, links_of, with_cells, with_mains, makes_pair, first}
+use Rattle.rules.specs.Edits.{Link, adds_pair, links_of, with_cells, with_mains}
 use Rattle.rules.specs.History.{Does, Runs}
 use Rattle.rules.specs.Memory.{Memory, State, last_count}
 use Rattle.rules.specs.Perform.{Out, Picks, seated, worded, quitted, going, enough, full, made_memory, with_new, chain_in, pending_for, performed, turned, value_of}
-use Rattle.rules.specs.Seats.{seat_of, no_seat, idle_seat, opened_seat, is_idle, is_settled, hoping, prepared, settled_seat, last_cell, parent_cell}
-use Rattle.rules.specs.Turns.{Look, look, reads, swaps, saw_word, saw_main, swapped_word, refusing, keyed}
+use Rattle.rules.specs.Seats.{seat_of, no_seat, idle_seat, opened_seat, is_idle, is_settled, hoping, prepared, settled_seat}
+use Rattle.rules.specs.Turns.{look, reads, swaps, refusing, keyed}
 use Rattle.rules.specs.declared.Ask.{Ask}
 use Rattle.rules.specs.declared.Call.{Call}
 use Rattle.rules.specs.declared.Call.TheVariants.{Open, Turn, Withdraw, Count}
@@ -21,13 +21,11 @@ use Rattle.rules.specs.declared.Outcome.{Outcome}
 use Rattle.rules.specs.declared.Pair.{Pair}
 use Rattle.rules.specs.declared.Pending.{Pending}
 use Rattle.rules.specs.declared.Phase.{Phase}
-use Rattle.rules.specs.declared.Phase.TheVariants.{Idle, Read, Swap, Climb, Parent, Clean}
 use Rattle.rules.specs.declared.Plan.{Plan}
-use Rattle.rules.specs.declared.Plan.TheVariants.{Refuse, Quit, Finish, Settle, Close, Go, Make}
+use Rattle.rules.specs.declared.Plan.TheVariants.{Refuse, Quit, Settle, Go, Make}
 use Rattle.rules.specs.declared.Reply.{Reply}
 use Rattle.rules.specs.declared.Reply.TheVariants.{Opened, Turned, Withdrew, Counted}
 use Rattle.rules.specs.declared.Seat.{Seat}
-use Rattle.rules.specs.declared.Seen.TheVariants.{Swapped}
 use Rattle.rules.proofs.Freshness.{accepted}
 use Rattle.theory.proofs.Order.{all_idle}
 use Rattle.theory.proofs.Plans.{Follows, plan_follows}
@@ -62,8 +60,7 @@ go_kept x phase y k up p (Follows.misses u) =
     (refl, record { slots = k.slots; root = k.root; short = k.short; above = λ e. up refl; phased = tt; cut = k.cut })
 
 settle_kept : (x : Seat) (phase : Phase) (r : Outcome) (n : ℕ) → Kept x → Follows x phase (Settle r) → Kept (settled_seat x r n)
-settle_kept x phase r n k (Follows.settles c l) =
-    record { slots = k.slots; root = k.root; short = k.short; above = λ e. l; phased = refl; cut = λ e. c }
+settle_kept x phase r n k e = grind arith
 
 make_kept : (x : Seat) (phase after : Phase) (edit : Edit) (n : ℕ) (r : Outcome) (pending : Pending) → Kept x → (is_up phase ≡ true → 1 ≤ x.path.depth) → Phased phase (is_settled x) → Follows x phase (Make edit after n r) → (is_idle after ≡ false) × Kept (prepared (hoping x r) after pending)
 make_kept x phase after edit n r pending k up p Follows.prepares =
@@ -87,12 +84,10 @@ data LeftAs : Seat → Type 0 where
   kept : {y : Seat} → is_idle y.phase ≡ false → Kept y → LeftAs y
 
 idle_left : (z : Seat) → LeftAs z → is_idle z.phase ≡ true → z ≡ idle_seat
-idle_left z LeftAs.freed i = refl
-idle_left z (LeftAs.kept o k) i = absurd (true≢false (sym i ∙ o))
+idle_left z e i = grind arith
 
 kept_left : (z : Seat) → LeftAs z → is_idle z.phase ≡ false → Kept z
-kept_left z LeftAs.freed o = absurd (true≢false o)
-kept_left z (LeftAs.kept o k) i = k
+kept_left z e o = grind arith
 
 -- A table has eight seats at most.
 pub in_limits_seats : (f : Figures) → in_limits f ≡ true → f.seats ≤ 8
@@ -113,50 +108,16 @@ module _ {K : Type 0} where
   still_suffices f m n e s = rw (e.words, e.mains, e.pairs, e.keys) s
 
   pub new_size : (pairs : List (Pair K)) (b : Bool) (key : Option K) (v p : ℕ) → length (with_new pairs b key v p) ≡ length pairs
-  new_size pairs false key v p = refl
-  new_size pairs true None v p = refl
-  new_size pairs true (Some key) v p = length-set pairs p _
-
-  made_size : (s : State K) (t : ℕ) (edit : Edit) (picks : Picks) → SameSize s.memory (made_memory s t edit picks)
-  made_size s t edit picks =
-      record {
-        words = cells_size s.memory.words (chain_in edit picks);
-        mains = mains_size _ (chain_in edit picks) ∙ length-set s.memory.mains _ _;
-        pairs = new_size s.memory.pairs (makes_pair edit) (slice_get s.memory.keys t) (value_of (seat_of s t).ask) (first picks.pairs);
-        keys = refl;
-      }
+  new_size pairs b key v p = grind (arith, length-set)
 
   reads_size : (m : Memory K) (c : Option ℕ) → length (reads m c).words ≡ length m.words
-  reads_size m None = refl
-  reads_size m (Some c) = word (slice_get m.words c)
-    where
-      main : (n : ℕ) (o : Option Main) → length (saw_main m.words n o).words ≡ length m.words
-      main n None = refl
-      main n (Some y) = refl
-
-      word : (o : Option ℕ) → length (saw_word m.words m.mains o).words ≡ length m.words
-      word None = refl
-      word (Some n) = main n _
+  reads_size m c = grind arith
 
   swaps_size : (m : Memory K) (c : Option ℕ) (old new : ℕ) → length (swaps m c old new).words ≡ length m.words
-  swaps_size m None old new = refl
-  swaps_size m (Some c) old new = word (slice_get m.words c)
-    where
-      by : (b : Bool) → length (cond {A = Look} b (record { seen = Ok (Swapped true); words = set m.words c new }) (record { seen = Ok (Swapped false); words = m.words })).words ≡ length m.words
-      by true = length-set m.words c new
-      by false = refl
-
-      word : (o : Option ℕ) → length (swapped_word m.words c old new o).words ≡ length m.words
-      word None = refl
-      word (Some n) = by (eqb n old)
+  swaps_size m c old new = grind (arith, length-set)
 
   look_size : (phase : Phase) (x : Seat) (m : Memory K) → length (look phase x m).words ≡ length m.words
-  look_size Idle x m = refl
-  look_size Read x m = reads_size m (last_cell x)
-  look_size Swap x m = swaps_size m (last_cell x) _ _
-  look_size Climb x m = reads_size m (last_cell x)
-  look_size Parent x m = reads_size m (parent_cell x)
-  look_size Clean x m = swaps_size m (parent_cell x) _ _
+  look_size phase x m = grind (arith, reads_size, swaps_size)
 
   worded_size : (m : Memory K) (words : List ℕ) → length words ≡ length m.words → SameSize m (worded m words)
   worded_size m words e = record { words = e; mains = refl; pairs = refl; keys = refl }
@@ -188,8 +149,7 @@ module _ {K : Type 0} where
         there p ne = get_or-set_other s.table.seats t p y idle_seat ne
 
         at_idle : (p : ℕ) → (p ≡ t) ⊎ (p ≡ t → ⊥) → is_idle (get_or (set s.table.seats t y) p idle_seat).phase ≡ true → get_or (set s.table.seats t y) p idle_seat ≡ idle_seat
-        at_idle p (inl e) i = here p e ∙ idle_left y left (ap (λ (x : Seat). is_idle x.phase) (sym (here p e)) ∙ i)
-        at_idle p (inr ne) i = there p ne ∙ w.idle p (ap (λ (x : Seat). is_idle x.phase) (sym (there p ne)) ∙ i)
+        at_idle p e i = grind (arith, here, idle_left, there)
 
         at_call : (p : ℕ) → (p ≡ t) ⊎ (p ≡ t → ⊥) → is_idle (get_or (set s.table.seats t y) p idle_seat).phase ≡ false → (p < f.seats) × Kept (get_or (set s.table.seats t y) p idle_seat)
         at_call p (inl e) i =
@@ -199,18 +159,12 @@ module _ {K : Type 0} where
 
   -- TURNS
 
-  keyed_size : (same : K → K → Bool) (hash : K → ℕ) (o : Option K) (x : Seat) (m : Memory K) → length (keyed same hash o x m).words ≡ length m.words
-  keyed_size same hash None x m = refl
-  keyed_size same hash (Some key) x m = look_size x.phase x m
-
   module _ (same : K → K → Bool) (hash : K → ℕ) {f : Figures} where
     performed_steady : (s : State K) (t : ℕ) (words : List ℕ) (p : Plan) (picks : Picks) → Steady f s → is_idle (seat_of s t).phase ≡ false → s.table.ticks < last_count → length words ≡ length s.memory.words → Follows (seat_of s t) (seat_of s t).phase p → Steady f (performed same hash s t words p picks).state
     performed_steady s t words (Refuse e) picks w o l q k = w
     performed_steady s t words (Quit e) picks w o l q k = reseated w t (w.calls t o).0 s.memory (same_size s.memory) idle_seat LeftAs.freed (suc s.table.ticks) l
-    performed_steady s t words (Finish r) picks w o l q k = reseated w t (w.calls t o).0 (worded s.memory words) (worded_size s.memory words q) idle_seat LeftAs.freed (suc s.table.ticks) l
     performed_steady s t words (Settle r) picks w o l q k =
         reseated w t (w.calls t o).0 (worded s.memory words) (worded_size s.memory words q) _ (LeftAs.kept refl (settle_kept (seat_of s t) (seat_of s t).phase r (suc s.table.ticks) (w.calls t o).1 k)) (suc s.table.ticks) l
-    performed_steady s t words Close picks w o l q k = reseated w t (w.calls t o).0 (worded s.memory words) (worded_size s.memory words q) idle_seat LeftAs.freed (suc s.table.ticks) l
     performed_steady s t words (Go y) picks w o l q k =
         let x = (w.calls t o).1 in
         let z = go_kept (seat_of s t) (seat_of s t).phase y x x.above x.phased k in
@@ -226,17 +180,16 @@ module _ {K : Type 0} where
         by true false =
             let x = (w.calls t o).1 in
             let z = make_kept (seat_of s t) (seat_of s t).phase phase edit n r (pending_for edit n picks) x x.above x.phased k in
-            reseated w t (w.calls t o).0 (made_memory s t edit picks) (made_size s t edit picks) y (LeftAs.kept z.0 z.1) (suc s.table.ticks) l
+            reseated w t (w.calls t o).0 (made_memory s t edit picks) (grind (arith, cells_size, mains_size, length-set, new_size)) y (LeftAs.kept z.0 z.1) (suc s.table.ticks) l
+    performed_steady s t words _ picks w o l q k = reseated w t (w.calls t o).0 (worded s.memory words) (worded_size s.memory words q) idle_seat LeftAs.freed (suc s.table.ticks) l
 
     turn_steady : (s : State K) (t : ℕ) (picks : Picks) → Steady f s → Steady f (turned same hash s t picks).state
     turn_steady s t picks w = by (no_seat s t) (is_idle (seat_of s t).phase) refl (leb last_count s.table.ticks) refl
       where
         by : (b c : Bool) → is_idle (seat_of s t).phase ≡ c → (d : Bool) → leb last_count s.table.ticks ≡ d → (let p = cond b (refusing s NoSuchSeat) (cond c (refusing s SeatIdle) (cond d (refusing s CountersSpent) (keyed same hash (slice_get s.memory.keys t) (seat_of s t) s.memory))) in Steady f (performed same hash s t p.words p.plan picks).state)
-        by true c o d l = w
-        by false true o d l = w
-        by false false o true l = w
         by false false o false l =
-            performed_steady s t _ _ picks w o (leb-false last_count s.table.ticks l) (keyed_size same hash (slice_get s.memory.keys t) (seat_of s t) s.memory) (plan_follows (seat_of s t) same hash (slice_get s.memory.keys t) s.memory o)
+            performed_steady s t _ _ picks w o (leb-false last_count s.table.ticks l) (grind (arith, look_size)) (plan_follows (seat_of s t) same hash (slice_get s.memory.keys t) s.memory o)
+        by _ _ o _ l = w
 
   -- THE OTHER CALLS
 
@@ -245,9 +198,8 @@ module _ {K : Type 0} where
     withdraw_steady = by (no_seat s t) (is_idle (seat_of s t).phase) refl
       where
         by : (u i : Bool) → is_idle (seat_of s t).phase ≡ i → (let left : Left K (Option Stamped) = cond u (refused_as s NoSuchSeat) (cond i (refused_as s SeatIdle) (record { state = seated s s.memory t idle_seat s.table.ticks; answer = Ok (withdrawal (seat_of s t)) })) in Steady f left.state)
-        by true i o = w
-        by false true o = w
         by false false o = reseated w t (w.calls t o).0 s.memory (same_size s.memory) idle_seat LeftAs.freed s.table.ticks w.ticks
+        by _ _ o = w
 
     open_steady : (ask : Ask) (key : K) → Steady f (opened s t ask key).state
     open_steady ask key = by (no_seat s t) refl (not (is_idle (seat_of s t).phase)) (leb last_count s.table.openings) refl (leb (length s.memory.keys) t)
@@ -265,10 +217,6 @@ module _ {K : Type 0} where
         fresh = record { slots = refl; root = refl; short = omega arith; above = never; phased = refl; cut = never }
 
         by : (u : Bool) → no_seat s t ≡ u → (i n : Bool) → leb last_count s.table.openings ≡ n → (k : Bool) → (let left : Left K ℕ = cond u (refused_as s NoSuchSeat) (cond i (refused_as s SeatTaken) (cond n (refused_as s CountersSpent) (cond k (refused_as s MemoryUnfit) (record { state = with_call s t ask key; answer = Ok (suc s.table.openings) })))) in Steady f left.state)
-        by true u i n l k = w
-        by false u true n l k = w
-        by false u false true l k = w
-        by false u false false l true = w
         by false u false false l false =
             let room = leb-false s.table.limits.seats t (or_parts (leb s.table.limits.seats t) _ u).0 in
             let r = reseated w t (subst (λ (q : Limits). t < q.seats) w.limits room) m size y (LeftAs.kept refl fresh) s.table.ticks w.ticks in
@@ -282,41 +230,19 @@ module _ {K : Type 0} where
               idle = r.idle;
               calls = r.calls;
             }
+        by _ u _ _ l _ = w
 
   module _ (same : K → K → Bool) (hash : K → ℕ) {f : Figures} where
     does_steady : (s : State K) (c : Call K) (r : Reply) (z : State K) → Does same hash s c r z → Steady f s → Steady f z
     does_steady s (Open t ask key) (Opened r) z (p, q) w = rw q (open_steady w t ask key)
-    does_steady s (Open t ask key) (Turned r) z d w = absurd d
-    does_steady s (Open t ask key) (Withdrew r) z d w = absurd d
-    does_steady s (Open t ask key) (Counted r) z d w = absurd d
-    does_steady s (Turn t) (Opened r) z d w = absurd d
     does_steady s (Turn t) (Turned r) z (out, (picks, takes, e), p, q) w =
         subst (Steady f) (sym (q ∙ ap (λ (o : Out K). o.state) e)) (turn_steady same hash s t picks w)
-    does_steady s (Turn t) (Withdrew r) z d w = absurd d
-    does_steady s (Turn t) (Counted r) z d w = absurd d
-    does_steady s (Withdraw t) (Opened r) z d w = absurd d
-    does_steady s (Withdraw t) (Turned r) z d w = absurd d
     does_steady s (Withdraw t) (Withdrew r) z (p, q) w = rw q (withdraw_steady w t)
-    does_steady s (Withdraw t) (Counted r) z d w = absurd d
-    does_steady s Count (Opened r) z d w = absurd d
-    does_steady s Count (Turned r) z d w = absurd d
-    does_steady s Count (Withdrew r) z d w = absurd d
     does_steady s Count (Counted r) z (p, q) w = rw q w
+    does_steady s _ _ z d w = absurd d
 
   fresh_steady : (f : Figures) (m : Memory K) → format_refusal f m ≡ None → Steady f (formatted f m)
-  fresh_steady f m e =
-      let a = accepted f m e in
-      let t = leb-true f.ticks last_count (and_parts (between 1 f.pairs 16384) _ (and_parts (between 1 f.cells 4096) _ (and_parts (between 1 f.seats 8) _ a.0).1).1).1 in
-      record {
-        seats = refl;
-        limits = refl;
-        figures = a.0;
-        memory = still_suffices f m _ (record { words = length-set m.words 0 0; mains = length-set m.mains 0 _; pairs = refl; keys = refl }) a.1;
-        ticks = t;
-        openings = t;
-        idle = λ t i. all_idle 8 t;
-        calls = λ t i. absurd (true≢false (ap (λ (x : Seat). is_idle x.phase) (sym (all_idle 8 t)) ∙ i));
-      }
+  fresh_steady f m e = grind (arith, accepted, leb-true, and_parts, still_suffices, length-set, all_idle, true≢false)
 
   pub steady : (same : K → K → Bool) (hash : K → ℕ) → SteadyTheorem same hash
   steady same hash f h s (Runs.fresh m k) = fresh_steady f m k

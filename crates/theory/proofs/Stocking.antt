@@ -1,9 +1,9 @@
 -- A swap, and what an edit prepares, keep the stock of written cells and mains.
-use Rattle.std.proofs.Common.{◌≡◌, ℕ, suc, ◌<◌, ◌≤◌, Bool, true, ltb, leb, ◌⊎◌, List, [], ◌∷◌, ◌++◌, length, set, Some, None, sym, refl, ap, ◌∙◌, subst, inl, inr, arith, length-set}
+use Rattle.std.proofs.Common.{◌≡◌, ℕ, suc, ◌<◌, ◌≤◌, Bool, true, ltb, ◌⊎◌, List, [], ◌∷◌, ◌++◌, length, set, Some, None, sym, refl, ap, ◌∙◌, subst, inl, inr, arith, length-set}
 use mathlib.Core.List.Memᴰ
 use mathlib.Core.List.{Memᴰ}
 use Rattle.std.specs.List.{slice_get}
-use Rattle.std.proofs.lemmas.Bool.{cond-true, lt-ltb, and_parts, leb-true}
+use Rattle.std.proofs.lemmas.Bool.{cond-true, lt-ltb}
 use Rattle.mains.specs.declared.Main.{Main}
 use Rattle.rules.specs.Edits.{Link, with_cells, with_mains, links_of, makes_pair, edited, first, rest}
 use Rattle.rules.specs.Memory.{Memory, State, main_limit, main_at}
@@ -11,7 +11,7 @@ use Rattle.rules.specs.Perform.{Picks, Picked, pairs_for, enough, worded, value_
 use Rattle.rules.specs.Seats.{seat_of}
 use Rattle.rules.specs.declared.Edit.{Edit}
 use Rattle.theory.proofs.Chained.{filled, cells_filled, mains_filled}
-use Rattle.theory.proofs.Chaining.{first_in, rest_in, first_or_rest, length_rest, chain_in_lem, chain_cell, chain_main}
+use Rattle.theory.proofs.Chaining.{first_in, rest_in, first_or_rest, chain_in_lem, chain_cell, chain_main}
 use Rattle.theory.proofs.Fineness.{fine_more}
 use Rattle.theory.proofs.ListPlaces.{Standing, set_stands, stands_set}
 use Rattle.theory.proofs.ShownMemory.{inside}
@@ -72,10 +72,7 @@ module _ (P : Main → Type 0) (ks : List Link) (mains : List Main) (f : (k : Li
 module _ {K : Type 0} (same : K → K → Bool) (hash : K → ℕ) {s : State K} {edit : Edit} {picks : Picks} (picked : Picked same hash s edit picks) (suffice : enough edit picks ≡ true) where
   -- As many places are taken as the edit needs.
   enough_parts : (links_of edit ≤ length picks.cells) × (suc (links_of edit) ≤ length picks.mains) × (pairs_for edit ≤ length picks.pairs)
-  enough_parts =
-      let a = and_parts (leb (links_of edit) (length picks.cells)) _ suffice in
-      let b = and_parts (leb (suc (links_of edit)) (length picks.mains)) _ a.1 in
-      (leb-true _ _ a.0, leb-true _ _ b.0, leb-true _ _ b.1)
+  enough_parts = grind arith
 
   -- The new main has its place, and so has the new pair.
   pub made_picked : Memᴰ (first picks.mains) picks.mains
@@ -104,13 +101,7 @@ module _ {K : Type 0} (same : K → K → Bool) (hash : K → ℕ) {s : State K}
 
     -- There are as many cells for the chain as main places.
     as_many : (length picks.cells ≤ length (rest picks.mains)) × (length (rest picks.mains) ≤ links_of edit) × (length (rest picks.mains) ≤ length picks.cells)
-    as_many =
-        let a = enough_parts.0 in
-        let b = enough_parts.1 in
-        let c = picked.cells.few in
-        let d = picked.mains.few in
-        let e = length_rest picks.mains in
-        (omega (arith, b, c, e), omega (arith, d, e), omega (arith, a, d, e))
+    as_many = grind arith
 
     words_held : (c : ℕ) → Memᴰ c (picks.cells ++ cells) → Standing Held (with_cells s.memory.words links) c
     words_held c m = by (Memᴰ.append_cases picks.cells m)

@@ -1,11 +1,10 @@
 -- A preparation in places that are not in use leaves what is in use as it was, and is a turn of the machine.
-use Rattle.std.proofs.Common.{◌≡◌, ℕ, suc, ◌-◌, ◌≤◌, Bool, true, false, List, ◌∷◌, length, get_or, take, set, Some, sym, refl, ap, ◌∙◌, subst, arith}
+use Rattle.std.proofs.Common.{◌≡◌, ℕ, suc, ◌-◌, ◌≤◌, Bool, true, false, List, ◌∷◌, length, get_or, take, set, Some, sym, ap, ◌∙◌, subst, arith}
 use mathlib.Core.List.{Memᴰ}
 use mathlib.Core.Option.{Option as Maybe, none, some}
 use Rattle.keys.specs.Laws.{KeyLaws}
 use Rattle.keys.specs.Routes.{chunk_at}
 use Rattle.std.specs.List.{slice_get}
-use Rattle.machine.proofs.Walk.{no_some}
 use Rattle.machine.specs.Machine.{Entry, Main as Shape, Op, Seat as Place, State as Machine, word, main as main_of, key, read, swap, parent, clean, Alike, Fresh, Prepares, Cleans}
 use Rattle.machine.specs.Machine.{MainInUse as UsedMain, PairInUse as UsedPair}
 use Rattle.machine.specs.Tree.{nth as placed}
@@ -21,7 +20,7 @@ use Rattle.rules.specs.Perform.{Picks, Picked, enough, chain_in, made_memory, pe
 use Rattle.rules.specs.Seats.{seat_of, is_idle, is_settled, hoping, prepared, chain_of}
 use Rattle.rules.specs.Sound.{sound}
 use Rattle.rules.specs.declared.Ask.{Ask}
-use Rattle.rules.specs.declared.Ask.TheVariants.{Get, Put, Cut}
+use Rattle.rules.specs.declared.Ask.TheVariants.{Put}
 use Rattle.rules.specs.declared.Edit.{Edit}
 use Rattle.rules.specs.declared.Edit.TheVariants.{Fixed}
 use Rattle.rules.specs.declared.Figures.{Figures}
@@ -51,9 +50,7 @@ carried P {a} {d} {b} {e} {c} {f} x y z u = subst (λ (v : _). P v e f) x (subst
 
 -- Only a put has made a pair.
 made_pair_lem : (ask : Ask) (p q : ℕ) → made_pair ask p ≡ some q → (v : ℕ) × (ask ≡ Put v) × (p ≡ q)
-made_pair_lem Get p q e = absurd (no_some e)
-made_pair_lem (Put v) p q e = (v, refl, cc)
-made_pair_lem Cut p q e = absurd (no_some e)
+made_pair_lem ask p q e = grind arith
 
 module _ {K : Type 0} (same : K → K → Bool) (hash : K → ℕ) (laws : KeyLaws same hash) {f : Figures} {es : List (Entry K)} {s : State K} {xs : List (Place K)} (g : Ground same hash f es s xs)
     (t : ℕ) (k : K) (o : is_idle (seat_of s t).phase ≡ false) (keyed : slice_get s.memory.keys t ≡ Some k) (edit : Edit) (picks : Picks) (picked : Picked same hash s edit picks) (room : enough edit picks ≡ true) where
@@ -193,13 +190,6 @@ module _ {K : Type 0} (same : K → K → Bool) (hash : K → ℕ) (laws : KeyLa
     over : a₁ ≤ a₀
     over = omega arith
 
-    cleans : Cleans same hash chunk_at (shown_main (node y)) a₁ (key caller) d₀ x₀.buried (shown_main y₀)
-    cleans =
-        subst (λ (u : K). Cleans same hash chunk_at (shown_main (node y)) a₁ u d₀ x₀.buried (shown_main y₀)) (sym (key_calling (is_settled x₀) x₀.ask k))
-        (subst (λ (u : Edit). Cleans same hash chunk_at (shown_main (node y)) a₁ k d₀ x₀.buried (shown_main (edited u (first picks.pairs) (first picks.cells)))) (sym ed)
-        (contracted same hash laws (length s.memory.pairs) g.written.cells k a₁ d₀ x₀.buried y
-        (held_fine same hash laws g t k o keyed a₁ over n (node y) h).formed (node_low same hash laws s.memory.pairs a₁ y sd) b))
-
     -- The state after it, with the main expected and the cells above the last.
     abbrev sweeps : ℕ → List ℕ → Machine K
     sweeps w cs = record { mem = shown_mem m₀; seats = set xs t (clean caller x₀.buried d₀ (first cs) (rest cs) w n₀); ticks = suc s.table.ticks }
@@ -213,7 +203,7 @@ module _ {K : Type 0} (same : K → K → Bool) (hash : K → ℕ) (laws : KeyLa
         (seat_shown same hash laws g t k o keyed Parent e ∙ ap (λ (cs : List ℕ). parent caller x₀.buried d₀ cs) two)
         taken_alike main_free
         (carried (λ (u : Shape) (i : ℕ) (v : Shape). Cleans same hash chunk_at u i (key caller) d₀ x₀.buried v)
-        (sym (main_shown same hash laws g t k o keyed a₁ over n (node y) h)) (sym (length_above x₀.path.cells a₁)) (sym made_shown) cleans)))
+        (sym (main_shown same hash laws g t k o keyed a₁ over n (node y) h)) (sym (length_above x₀.path.cells a₁)) (sym made_shown) (grind (arith, key_calling, contracted, held_fine, over, node_low)))))
 
   -- PARENT prepares a cleaning.
   pub cleans_turn : (seat_of s t).phase ≡ Parent → (n : ℕ) (y : Node) → Holds same hash s.memory (get_or (seat_of s t).path.cells ((seat_of s t).path.depth - 1) 0) n (node y)

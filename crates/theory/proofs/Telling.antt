@@ -1,11 +1,11 @@
 -- The pairs reached are those of the plain map, and at rest the trie is compact.
-use Rattle.std.proofs.Common.{◌≡◌, ℕ, ◌≤◌, Bool, true, false, T, List, length, Some, sym, refl, ap, ◌∙◌, subst, mod-eq_of_lt, arith}
+use Rattle.std.proofs.Common.{◌≡◌, ℕ, ◌≤◌, Bool, true, false, List, length, Some, sym, refl, ap, ◌∙◌, subst, mod-eq_of_lt, arith}
 use mathlib.Core.List.{Memᴰ}
 use Rattle.keys.specs.Laws.{KeyLaws}
 use Rattle.keys.proofs.Chunks.{prefix_by_chunks}
 use Rattle.keys.specs.Routes.{chunk_at, prefix_at}
 use Rattle.std.specs.List.{slice_get}
-use Rattle.std.proofs.lemmas.Bool.{both_ways, false≢true}
+use Rattle.std.proofs.lemmas.Bool.{both_ways}
 use Rattle.std.proofs.lemmas.Option.{same_Some}
 use Rattle.machine.proofs.AtRest.{at_rest}
 use Rattle.machine.proofs.Chunk.{chunks}
@@ -15,13 +15,11 @@ use Rattle.machine.specs.Machine.{Entry, Seat as Place, IsTomb, word, main, view
 use Rattle.machine.specs.Rest.{Held, Shared}
 use Rattle.machine.specs.Tree.{Agree}
 use Rattle.machine.specs.Turn.{Turns}
-use Rattle.mains.specs.declared.Main.{Main}
-use Rattle.mains.specs.declared.Main.TheVariants.{Node as node, Tomb as tomb, List as listing}
 use Rattle.rules.proofs.Counting.{counted}
 use Rattle.rules.proofs.Following.{followed}
 use Rattle.rules.proofs.Naming.{sound_in_lem}
 use Rattle.rules.specs.Memory.{State}
-use Rattle.rules.specs.Reached.{ReachedPair, ReachedTomb, StandsFor, HowMany, is_tomb}
+use Rattle.rules.specs.Reached.{ReachedPair, ReachedTomb, StandsFor, HowMany}
 use Rattle.rules.specs.Theorem.{StampedCall, fed, Holds, SharedBy, Compact, AtRest}
 use Rattle.rules.specs.declared.Figures.{Figures}
 use Rattle.rules.specs.declared.Pair.{Pair}
@@ -37,17 +35,7 @@ use Rattle.theory.proofs.Seating.{shown_state}
 use Rattle.theory.proofs.ShownMemory.{shows_memory}
 use Rattle.theory.proofs.Using.{intact, reached_leads}
 use Rattle.theory.specs.Fed.{entries_of}
-use Rattle.theory.specs.Shown.{shown_main, shown_mem}
-
--- A tomb is shown as one.
-dead : (x : Main) → is_tomb x ≡ true → IsTomb (shown_main x)
-dead (node n) e = absurd (false≢true e)
-dead (tomb p) e = tt
-dead (listing l) e = absurd (false≢true e)
-
-is_false : (b : Bool) → (T b → ⊥) → b ≡ false
-is_false true f = absurd (f tt)
-is_false false f = refl
+use Rattle.theory.specs.Shown.{shown_mem}
 
 module _ {K : Type 0} (same : K → K → Bool) (hash : K → ℕ) (laws : KeyLaws same hash) where
   module _ {f : Figures} {s : State K} {xs : List (Place K)} where
@@ -142,7 +130,7 @@ module _ {K : Type 0} (same : K → K → Bool) (hash : K → ℕ) (laws : KeyLa
           q_reached = b.2;
           p_holds = a.3;
           q_holds = b.3;
-          different = ap (λ (x : K × ℕ). same x.0 b.1.key) (sym a.4) ∙ ap (λ (x : K × ℕ). same z.x.0 x.0) (sym b.4) ∙ is_false (same z.x.0 z.y.0) z.differ;
+          different = ap (λ (x : K × ℕ). same x.0 b.1.key) (sym a.4) ∙ ap (λ (x : K × ℕ). same z.x.0 x.0) (sym b.4) ∙ (grind arith);
           p_has = has z.x a.1 a.4 z.x_agrees;
           q_has = has z.y b.1 b.4 z.y_agrees;
         }
@@ -173,7 +161,7 @@ module _ {K : Type 0} (same : K → K → Bool) (hash : K → ℕ) (laws : KeyLa
         no_tomb n r =
             let l = reached_leads same hash laws g r.index r.cell r.at in
             let e = main_shown s.memory r.cell r.main (sound_in_lem same hash s.memory r.index r.cell r.main r.keeps).0 in
-            done.no_tombs l.0 r.index r.cell l.1 (subst IsTomb (sym e) (dead r.main r.dead))
+            done.no_tombs l.0 r.index r.cell l.1 (subst IsTomb (sym e) (grind arith))
 
         shared : (index prefix c : ℕ) → 1 ≤ index → index ≤ 7 → StandsFor same hash s.memory index prefix c → SharedBy same hash s.memory index prefix
         shared index prefix c l u z =

@@ -1,5 +1,5 @@
 -- What the machine reaches and uses, the rules reach and use; and each cell of an open call's path can be read.
-use Rattle.std.proofs.Common.{◌≡◌, ℕ, zero, suc, ◌≤◌, Bool, true, false, cond, leb, ◌⊎◌, List, length, get_or, Some, None, sym, refl, ap, ◌∙◌, subst, inl, inr, arith}
+use Rattle.std.proofs.Common.{◌≡◌, ℕ, zero, suc, ◌≤◌, Bool, true, false, cond, ◌⊎◌, List, length, get_or, Some, None, sym, refl, ap, ◌∙◌, subst, inl, inr, arith}
 use mathlib.Core.List.{Memᴰ}
 use native.Mathlib.Decide.{ℕ_discrete}
 use Rattle.keys.specs.Laws.{KeyLaws}
@@ -51,13 +51,7 @@ module _ {K : Type 0} (same : K → K → Bool) (hash : K → ℕ) where
 module _ {K : Type 0} (same : K → K → Bool) (hash : K → ℕ) (laws : KeyLaws same hash) {f : Figures} {es : List (Entry K)} {s : State K} {xs : List (Place K)} (g : Ground same hash f es s xs) where
   -- An open call has its key.
   pub key_of : (t : ℕ) → is_idle (seat_of s t).phase ≡ false → (k : K) × (slice_get s.memory.keys t ≡ Some k)
-  key_of t o =
-      let l = (g.steady.calls t o).0 in
-      let a = (and_parts (leb _ (length s.memory.words)) _ g.steady.memory).1 in
-      let b = (and_parts (leb _ (length s.memory.mains)) _ a).1 in
-      let c = (and_parts (leb _ (length s.memory.pairs)) _ b).1 in
-      let n = leb-true f.seats (length s.memory.keys) c in
-      nth_there s.memory.keys t (omega (arith, l, n))
+  key_of t o = grind (arith, and_parts, leb-true, nth_there)
 
   -- WRITTEN CELLS
 
@@ -141,9 +135,8 @@ module _ {K : Type 0} (same : K → K → Bool) (hash : K → ℕ) (laws : KeyLa
 
   -- A tomb below the root keeps the rules.
   entombed : (i : ℕ) → 1 ≤ i → i ≤ 7 → (x : Main) → Fine g.written.cells (length s.memory.pairs) x → IsTomb (shown_main x) → sound same hash s.memory.pairs i x ≡ true
-  entombed i l k (node n) fine t = absurd t
   entombed i l k (tomb p) fine t = sound_tomb same hash laws s.memory i p l k (fine.paired p refl)
-  entombed i l k (listing y) fine t = absurd t
+  entombed i l k _ fine t = absurd t
 
   -- A written cell can be read where it is led to, and where it holds a tomb below the root.
   read_led : (k : K) (i c : ℕ) → Stock c → Leads s.memory (hash k) i c → Readable same hash s g.written.cells k i c
@@ -151,17 +144,7 @@ module _ {K : Type 0} (same : K → K → Bool) (hash : K → ℕ) (laws : KeyLa
       record { number = z.number; main = z.main; holds = z.holds; fine = z.fine; keeps = sound_led (hash k) i c w z; shown = z.shown; leads = λ _. w }
 
   read_tomb : (k : K) (i c : ℕ) → Stock c → 1 ≤ i → i ≤ 7 → IsTomb (main_of (shown_mem s.memory) (word (shown_mem s.memory) c)) → Readable same hash s g.written.cells k i c
-  read_tomb k i c z l m d =
-      let t = subst IsTomb z.shown d in
-      record {
-        number = z.number;
-        main = z.main;
-        holds = z.holds;
-        fine = z.fine;
-        keeps = entombed i l m z.main z.fine t;
-        shown = z.shown;
-        leads = λ n. absurd (true≢false (sym (is_tomb_lem z.main t) ∙ n));
-      }
+  read_tomb k i c z l m d = grind (arith, entombed, true≢false, is_tomb_lem)
 
   -- The root, and each cell of an open call's path, can be read.
   pub readable : (t : ℕ) (k : K) → is_idle (seat_of s t).phase ≡ false → slice_get s.memory.keys t ≡ Some k → (i : ℕ) → i ≤ (seat_of s t).path.depth

@@ -47,12 +47,7 @@ module _ {K : Type 0} (same : K → K → Bool) (hash : K → ℕ) (laws : KeyLa
         → cell_count same hash z + cells_by y ≤ cell_count same hash s.memory + cells_by (seat_of s t)
         → pair_count same hash z + pairs_by y ≤ pair_count same hash s.memory + pairs_by (seat_of s t)
         → Within same hash (seated s z t y n)
-    weighed z y n a b =
-        let c = cells_set s.table.seats t y in_seats in
-        let d = pairs_set s.table.seats t y in_seats in
-        let p = w.cells in
-        let q = w.pairs in
-        record { cells = omega (arith, a, c, p); pairs = omega (arith, b, d, q) }
+    weighed z y n a b = grind (arith, cells_set, in_seats, pairs_set)
 
     -- A seat that promises nothing, in the memory as it was.
     quiet : (y : Seat) → cells_by y ≡ 0 → pairs_by y ≡ 0 → Within same hash (seated s s.memory t y (suc s.table.ticks))
@@ -78,8 +73,7 @@ module _ {K : Type 0} (same : K → K → Bool) (hash : K → ℕ) (laws : KeyLa
           pairs_most = promised_most phase (cond (adds_pair edit) 1 0)
 
           one_most : (b : Bool) → cond b 1 0 ≤ 1
-          one_most true = omega arith
-          one_most false = omega arith
+          one_most b = grind arith
 
           by : (adds_pair edit ≡ false) ⊎ (full same hash s t (links_of edit) ≡ false) → Within same hash (seated s (made_memory s t edit picks) t pending_seat (suc s.table.ticks))
           by (inl a) =
@@ -115,12 +109,10 @@ module _ {K : Type 0} (same : K → K → Bool) (hash : K → ℕ) (laws : KeyLa
 
       reads_keeps : (n : ℕ) (y : Main) (p : Plan) → Reads same hash s.memory (seat_of s t) k n y p → Keeps t picks more p s.memory.words
       reads_keeps n y p (Reads.missing z q b m) takes grown after = w
-      reads_keeps n y p (Reads.full l u) takes grown after = quiet idle_seat refl refl
-      reads_keeps n y p (Reads.lacks u l) takes grown after = quiet idle_seat refl refl
-      reads_keeps n y p (Reads.finds e h) takes grown after = quiet idle_seat refl refl
       reads_keeps n y p (Reads.grows z d b) takes grown after = quiet _ refl refl
       reads_keeps n y p (Reads.meets q) takes grown after = quiet _ refl refl
       reads_keeps n y p (Reads.drafts {edit = edit} {r = r} d) takes grown after = make_keeps edit Swap n r takes grown after
+      reads_keeps n y p _ takes grown after = quiet idle_seat refl refl
 
       module _ (words : List ℕ) (l : cell_count same hash (worded s.memory words) ≤ cell_count same hash s.memory) where
         -- A turn that fixes nothing and brings no cell into reach, of a seat that promises nothing any more.
@@ -132,8 +124,7 @@ module _ {K : Type 0} (same : K → K → Bool) (hash : K → ℕ) (laws : KeyLa
 
         leaves_keeps : (p : Plan) → Leaves same hash (seat_of s t) p → Keeps t picks more p words
         leaves_keeps p (Leaves.closes u d) takes grown after = unfixed idle_seat refl refl grown after
-        leaves_keeps p (Leaves.drops u d) takes grown after = unfixed _ refl refl grown after
-        leaves_keeps p (Leaves.restarts u) takes grown after = unfixed _ refl refl grown after
+        leaves_keeps p _ takes grown after = unfixed _ refl refl grown after
 
       -- A swap that says yes brings into reach what its seat has promised.
       swap_keeps : (seat_of s t).phase ≡ Swap → (c : ℕ) → last_cell (seat_of s t) ≡ Some c → slice_get s.memory.words c ≡ Some (seat_of s t).pending.expected
@@ -153,16 +144,12 @@ module _ {K : Type 0} (same : K → K → Bool) (hash : K → ℕ) (laws : KeyLa
       sees_keeps p words (Sees.reads e c n y l h u v) takes grown after = reads_keeps n y p v takes grown after
       sees_keeps p words (Sees.settles e c l h u d) takes grown after = swap_keeps e c l h _ refl refl _ grown after
       sees_keeps p words (Sees.finishes e c l h u) takes grown after = swap_keeps e c l h idle_seat refl refl _ grown after
-      sees_keeps p words (Sees.loses e) takes grown after = quiet _ refl refl
-      sees_keeps p words (Sees.buries e c n q l h d) takes grown after = quiet _ refl refl
       sees_keeps p words (Sees.climbs_close e c n y l h u d) takes grown after = quiet idle_seat refl refl
-      sees_keeps p words (Sees.climbs_drop e c n y l h u d) takes grown after = quiet _ refl refl
       sees_keeps p words (Sees.contracts e c n y l h u b) takes grown after = make_keeps _ Clean n _ takes grown after
       sees_keeps p words (Sees.parts e c n y l h u v) takes grown after = leaves_keeps s.memory.words (omega arith) p v takes grown after
       sees_keeps p words (Sees.cleans e c l h v) takes grown after =
           leaves_keeps (set s.memory.words c (seat_of s t).pending.made) (clean_count same hash laws g t k o keyed_as c h e l) p v takes grown after
-      sees_keeps p words (Sees.misses e u) takes grown after = quiet _ refl refl
-      sees_keeps p words (Sees.gives_up_lem e u) takes grown after = quiet _ refl refl
+      sees_keeps p words _ takes grown after = quiet _ refl refl
 
   pub within_turn : (t : ℕ) (picks : Picks) (more : List (StampedCall K)) → Takes same hash s (planned same hash s t).plan picks
       → Grown s t calls (turned same hash s t picks).fixed more
@@ -177,7 +164,5 @@ module _ {K : Type 0} (same : K → K → Bool) (hash : K → ℕ) (laws : KeyLa
 
       by : (b c : Bool) → is_idle (seat_of s t).phase ≡ c → (d : Bool)
           → (let p = cond b (refusing s NoSuchSeat) (cond c (refusing s SeatIdle) (cond d (refusing s CountersSpent) (keyed same hash (slice_get s.memory.keys t) (seat_of s t) s.memory))) in Keeps t picks more p.plan p.words)
-      by true c o d = λ takes grown after. w
-      by false true o d = λ takes grown after. w
-      by false false o true = λ takes grown after. w
       by false false o false = keyed_keeps o (slice_get s.memory.keys t) refl
+      by _ _ o _ = λ takes grown after. w

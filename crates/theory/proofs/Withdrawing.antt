@@ -49,8 +49,6 @@ module _ {K : Type 0} (same : K → K → Bool) (hash : K → ℕ) where
             → (let left : Left K (Option Stamped) = cond u (refused_as s NoSuchSeat) (cond i (refused_as s SeatIdle) (record { state = seated s s.memory t idle_seat s.table.ticks; answer = Ok (withdrawal (seat_of s t)) })) in
             Written left.state → ((p : ℕ) → is_idle (seat_of left.state p).phase ≡ false → Poised (seat_of left.state p))
             → Image same hash (record { call = Withdraw t; reply = Withdrew left.answer; number = (seat_of s t).number; ticks = left.state.table.ticks } ∷ h) calls left.state)
-        by true u i o a b = still m a b
-        by false u true o a b = still m a b
         by false u false o a b =
             record {
               seats = set m.seats t idle;
@@ -65,3 +63,4 @@ module _ {K : Type 0} (same : K → K → Bool) (hash : K → ℕ) where
           where
             key : (k : K) × (slice_get s.memory.keys t ≡ Some k)
             key = key_of same hash laws (ground same hash laws w m) t o
+        by _ u _ o a b = still m a b

@@ -17,7 +17,7 @@ use Rattle.rules.specs.declared.NewCell.{NewCell}
 use Rattle.rules.specs.declared.Outcome.{Outcome}
 use Rattle.rules.specs.declared.Outcome.TheVariants.{Stored, Removed}
 use Rattle.rules.specs.declared.Phase.{Phase}
-use Rattle.rules.specs.declared.Phase.TheVariants.{Idle, Read, Swap, Climb, Parent, Clean}
+use Rattle.rules.specs.declared.Phase.TheVariants.{Swap, Parent, Clean}
 use Rattle.rules.specs.declared.Seat.{Seat}
 
 -- A main as the code makes them.
@@ -29,8 +29,7 @@ Formed (listing l) = WellListed l
 -- The main names a cell.
 abbrev pub NamesCell : Main → ℕ → Type 0
 NamesCell (node n) c = (q : ℕ) × (branch_at n q ≡ Some (cell c))
-NamesCell (tomb p) c = ⊥
-NamesCell (listing l) c = ⊥
+NamesCell _ c = ⊥
 
 -- The main names a pair.
 abbrev pub NamesPair : Main → ℕ → Type 0
@@ -46,12 +45,9 @@ pub record Fine (cells : List ℕ) (pairs : ℕ) (x : Main) : Type 0 where
 
 -- Whether a phase knows the pair of a tomb.
 abbrev pub is_burying : Phase → Bool
-is_burying Idle = false
-is_burying Read = false
-is_burying Swap = false
-is_burying Climb = false
 is_burying Parent = true
 is_burying Clean = true
+is_burying _ = false
 
 -- What the record of an open call names is among some cells, mains, and below the number of pairs.
 pub record Owns (cells mains : List ℕ) (pairs : ℕ) (x : Seat) : Type 0 where

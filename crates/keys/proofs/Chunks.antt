@@ -1,8 +1,9 @@
 -- Chunks and prefixes: a prefix is its chunks, and where two hashes part.
-use Rattle.std.proofs.Common.{◌≡◌, ℕ, zero, suc, ◌+◌, ◌-◌, ◌*◌, ◌/◌, ◌%◌, ◌^◌, ◌<◌, ◌≤◌, min, Bool, true, false, cond, eqb, sym, refl, ap, ◌∙◌, inl, inr, ⊎_elim, mod-eq_of_lt, arith, lit<}
+use Rattle.std.proofs.Common.{◌≡◌, ℕ, zero, suc, ◌+◌, ◌-◌, ◌*◌, ◌/◌, ◌%◌, ◌^◌, ◌<◌, ◌≤◌, min, eqb, refl, ap, ◌∙◌, inl, inr, ⊎_elim, mod-eq_of_lt, arith, lit<}
 use native.Mathlib.Nat.{div-eq_of_lt}
-use Rattle.std.proofs.lemmas.Nat.{mod-pow-add, mod_below, pow_pos, pow_below, div-mul-add, mod-mul-add}
-use Rattle.std.proofs.lemmas.Bool.{cases_eq, cases_lt, eqb-true, eqb-false}
+use lib.Bits.{bit_and}
+use Rattle.std.proofs.lemmas.Nat.{and_mask, one_shl, mod-pow-add, mod_below, pow_pos, pow_below, div-mul-add, mod-mul-add}
+use Rattle.std.proofs.lemmas.Bool.{cases_eq, cases_lt, cond_both, eqb-true, eqb-false}
 use Rattle.std.specs.Prelude.{Option, Some, None, MatchOption, ◌≢◌}
 use Rattle.std.specs.Option.{unwrap_or}
 use Rattle.keys.specs.Routes.{chunk_at, prefix_at, first_apart, parting_at, Together, Parts, PrefixByChunks}
@@ -22,6 +23,10 @@ chunk_past h index l k = let e : h / 2 ^ (5 * index) ≡ 0 = div-eq_of_lt (long 
 pub prefix_past : (h index : ℕ) → h < 2 ^ 32 → 7 ≤ index → prefix_at h index ≡ h
 prefix_past h index l k = mod-eq_of_lt (long h index l k)
 
+-- The low bits that a mask leaves.
+pub masked : (h index : ℕ) → index < 7 → bit_and h (1 * 2 ^ (5 * index) % 2 ^ 32 - 1) ≡ prefix_at h index
+masked h index l = ap (λ flag. bit_and h (flag - 1)) (one_shl (5 * index) 32 (omega arith)) ∙ and_mask h (5 * index)
+
 -- The next prefix is the chunk here above the prefix so far.
 pub prefix_next : (h index : ℕ) → prefix_at h (suc index) ≡ chunk_at h index * 2 ^ (5 * index) + prefix_at h index
 prefix_next h index =
@@ -33,17 +38,16 @@ module _ (h g : ℕ) where
   narrower : (index : ℕ) → prefix_at h (suc index) ≡ prefix_at g (suc index) → (prefix_at h index ≡ prefix_at g index) × (chunk_at h index ≡ chunk_at g index)
   narrower index e =
       let w = 2 ^ (5 * index) in
-      let s : chunk_at h index * w + prefix_at h index ≡ chunk_at g index * w + prefix_at g index = sym (prefix_next h index) ∙ (e ∙ prefix_next g index) in
+      let hm = prefix_next h index in
+      let gm = prefix_next g index in
       let hl : prefix_at h index < w = mod_below h w (pow_pos (5 * index)) in
       let gl : prefix_at g index < w = mod_below g w (pow_pos (5 * index)) in (
-        sym (mod-mul-add (chunk_at h index) w (prefix_at h index) hl) ∙ (ap (λ n. n % w) s ∙ mod-mul-add (chunk_at g index) w (prefix_at g index) gl),
-        sym (div-mul-add (chunk_at h index) w (prefix_at h index) hl) ∙ (ap (λ n. n / w) s ∙ div-mul-add (chunk_at g index) w (prefix_at g index) gl),
+        cc (mod-mul-add (chunk_at h index) w (prefix_at h index) hl, mod-mul-add (chunk_at g index) w (prefix_at g index) gl),
+        cc (div-mul-add (chunk_at h index) w (prefix_at h index) hl, div-mul-add (chunk_at g index) w (prefix_at g index) gl),
       )
 
   wider : (index : ℕ) → prefix_at h index ≡ prefix_at g index → chunk_at h index ≡ chunk_at g index → prefix_at h (suc index) ≡ prefix_at g (suc index)
-  wider index e f =
-      prefix_next h index
-      ∙ (ap (λ n. n * 2 ^ (5 * index) + prefix_at h index) f ∙ (ap (λ n. chunk_at g index * 2 ^ (5 * index) + n) e ∙ sym (prefix_next g index)))
+  wider index e f = cc (prefix_next h index, prefix_next g index)
 
   chunks : (index : ℕ) → prefix_at h index ≡ prefix_at g index → Together h g 0 index
   chunks zero e i _ l = absurd (omega arith)
@@ -63,62 +67,51 @@ module _ (h g : ℕ) where
   pub prefix_whole : h < 2 ^ 32 → g < 2 ^ 32 → prefix_at h 7 ≡ prefix_at g 7 → h ≡ g
   prefix_whole hl gl e = omega arith
 
-  -- Where the chunks here are told apart or not, the rest follows from where they part later.
-  here_or_later : (index at : ℕ) (b : Bool) → eqb (chunk_at h index) (chunk_at g index) ≡ b → index < 7 → Parts h g (index + 1) at → Parts h g index (cond b at index)
-  here_or_later index at true t l p =
-      record {
-        inside = p.inside;
-        onward = ⊎_elim (λ (k : index + 1 ≤ at). inl (omega arith)) (λ (s : at ≡ 7). inr s) p.onward;
-        together =
-            λ i k m.
-            ⊎_elim (λ (s : i ≡ index). rw s (eqb-true (chunk_at h index) (chunk_at g index) t))
-            (λ (n : i ≡ index → ⊥). p.together i (omega arith) m)
-            (cases_eq i index);
-        apart = p.apart;
-      }
-  here_or_later index at false t l p =
-      record {
-        inside = omega arith;
-        onward = inl (omega arith);
-        together = λ i k m. absurd (omega arith);
-        apart = inl (eqb-false (chunk_at h index) (chunk_at g index) t);
-      }
-
   first_parts : (more index : ℕ) → index + more ≡ 7 → Parts h g index (first_apart h g more index)
   first_parts zero index e =
       record { inside = omega arith; onward = inl (omega arith); together = λ i l k. absurd (omega arith); apart = inr (omega arith) }
   first_parts (suc more) index e =
-      here_or_later index (first_apart h g more (index + 1)) (eqb (chunk_at h index) (chunk_at g index)) refl (omega arith)
-      (first_parts more (index + 1) (omega arith))
-
-  beyond : (from : ℕ) → 7 ≤ from → Parts h g from 7
-  beyond from l = record { inside = omega arith; onward = inr refl; together = λ i k m. absurd (omega arith); apart = inr refl }
+      let p = first_parts more (index + 1) (omega arith) in
+      cond_both (eqb (chunk_at h index) (chunk_at g index)) (first_apart h g more (index + 1)) index (Parts h g index)
+      (λ t. record {
+        inside = p.inside;
+        onward = elim p.onward [ inl k ↦ inl (omega arith) | inr s ↦ inr s ];
+        together = λ i k m. elim (cases_eq i index) [ inl s ↦ rw s (eqb-true _ _ t) | inr n ↦ p.together i (omega arith) m ];
+        apart = p.apart;
+      })
+      (λ t. record {
+        inside = omega arith;
+        onward = inl (omega arith);
+        together = λ i k m. absurd (omega arith);
+        apart = inl (eqb-false _ _ t);
+      })
 
   pub parting_parts : (from : ℕ) → Parts h g from (parting_at h g from)
   unfolding parting_at
   parting_parts from =
-      ⊎_elim (λ (l : from < 7). let e : min from 7 ≡ from = omega arith in rw e (first_parts (7 - from) from (omega arith)))
-      (λ (l : 7 ≤ from).
-      let e : min from 7 ≡ 7 = omega arith in
-      let f : 7 - from ≡ 0 = omega arith in
-      rw (e, f) (beyond from l))
-      (cases_lt from 7)
+      elim (cases_lt from 7) [
+        | inl l ↦ let e : min from 7 ≡ from = omega arith in rw e (first_parts (7 - from) from (omega arith))
+        | inr l ↦
+            let e : min from 7 ≡ 7 = omega arith in
+            let f : 7 - from ≡ 0 = omega arith in
+            rw (e, f) (record { inside = omega arith; onward = inr refl; together = λ i k m. absurd (omega arith); apart = inr refl })
+      ]
 
   not_before : (from a b : ℕ) → Parts h g from a → Parts h g from b → a < b → ⊥
   not_before from a b p q l =
       let early : a ≡ 7 → ⊥ = λ e. let i = q.inside in omega arith in
-      ⊎_elim (λ (differ : chunk_at h a ≢ chunk_at g a).
-      ⊎_elim (λ (low : from ≤ a). differ (q.together a low l)) early p.onward)
-      early p.apart
+      ⊎_elim (λ differ. ⊎_elim (λ low. differ (q.together a low l)) early p.onward) early p.apart
 
   -- There is one place where the hashes part.
   pub parting_once : (from at : ℕ) → Parts h g from at → at ≡ parting_at h g from
   parting_once from at p =
-      let n : at < parting_at h g from → ⊥ = not_before from at (parting_at h g from) p (parting_parts from) in
-      let m : parting_at h g from < at → ⊥ = not_before from (parting_at h g from) at (parting_parts from) p in
-      omega (arith, n, m)
+      let q = parting_parts from in
+      omega (arith, not_before from at (parting_at h g from) p q, not_before from (parting_at h g from) at q p)
 
   -- It is found first among the indices from one on at which the chunks differ, or else it is 7.
   pub parts_found : (from : ℕ) (o : Option ℕ) → MatchOption o (Together h g from 7) (λ i. (from ≤ i) × (i < 7) × (chunk_at h i ≢ chunk_at g i) × Together h g from i) → Parts h g from (unwrap_or o 7)
   parts_found from None t = record { inside = omega arith; onward = inr refl; together = t; apart = inr refl }
   parts_found from (Some i) (low, below, differ, t) = record { inside = omega arith; onward = inl low; together = t; apart = inl differ }
+
+-- What the checks of the functions on routes are given.
+pub ruleset of_routes = (chunk_below, chunk_past, prefix_past, and_mask, masked, prefix_by_chunks)

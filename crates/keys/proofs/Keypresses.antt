@@ -1,7 +1,8 @@
 -- Reading presses one by one: what is a code, and what is not.
-use Rattle.std.proofs.Common.{◌≡◌, ℕ, zero, suc, ◌+◌, ◌<◌, ◌≤◌, Bool, true, false, cond, ◌⊎◌, List, [], ◌∷◌, ◌++◌, length, get_or, take, set, Some, None, Ok, Err, sym, refl, ap, ◌∙◌, inl, inr, arith, take_all, rules}
+use Rattle.std.proofs.Common.{◌≡◌, ℕ, zero, suc, ◌+◌, ◌<◌, ◌≤◌, Bool, true, false, cond, ◌⊎◌, List, [], ◌∷◌, ◌++◌, length, get_or, take, set, Some, None, Ok, Err, refl, ◌∙◌, inl, inr, arith, take_all, rules, length-set}
 use Rattle.std.proofs.lemmas.List.{take_more, take_more_set}
-use Rattle.std.proofs.lemmas.Bool.{and_parts, and_from, and_left, and_right, le-leb, lt-leb}
+use Rattle.std.proofs.lemmas.Bool.Decides.{nat_tests}
+use Rattle.std.proofs.lemmas.Bool.{and_parts, and_from, and_left, and_right}
 use Rattle.std.specs.Option.{ok_or}
 use Rattle.panel.specs.declared.Refusal.{Refusal}
 use Rattle.panel.specs.declared.Refusal.TheVariants.{CodeMisread}
@@ -10,9 +11,7 @@ use Rattle.keys.specs.Codes.{code_read}
 
 one_more : (xs : List ℕ) (b : ℕ) → all_presses xs ≡ true → is_press b ≡ true → all_presses (xs ++ (b ∷ [])) ≡ true
 one_more [] b h k = and_from (is_press b) true k refl
-one_more (x ∷ xs) b h k =
-    let p = and_parts (is_press x) (all_presses xs) h in
-    and_from (is_press x) (all_presses (xs ++ (b ∷ []))) p.0 (one_more xs b p.1 k)
+one_more (x ∷ xs) b h k = let p = and_parts (is_press x) (all_presses xs) h in and_from (is_press x) _ p.0 (one_more xs b p.1 k)
 
 not_all : (xs : List ℕ) (i : ℕ) → i < length xs → is_press (get_or xs i 0) ≡ false → all_presses xs ≡ false
 not_all [] i l k = absurd (omega arith)
@@ -20,11 +19,11 @@ not_all (x ∷ xs) zero l k = and_left (is_press x) (all_presses xs) k
 not_all (x ∷ xs) (suc i) l k = and_right (is_press x) (all_presses xs) (not_all xs i (omega arith) k)
 
 -- What a byte gives by which a press is told, or else an error.
-taken : (t : Bool) (c b : ℕ) (e : Refusal) → ok_or (cond t (Some c) None) e ≡ Ok b → (t ≡ true) × (b ≡ c)
+taken : (t : Bool) (c b : ℕ) (e : Refusal) → ok_or (cond t (Some c) None) e ≡ Ok b → (t ≡ true) × (c ≡ b)
 taken true c b e o = (refl, cc)
 taken false c b e o = search rules
 
-missed : (t : Bool) (c : ℕ) (e r : Refusal) → ok_or (cond t (Some c) None) e ≡ Err r → (t ≡ false) × (r ≡ e)
+missed : (t : Bool) (c : ℕ) (e r : Refusal) → ok_or (cond t (Some c) None) e ≡ Err r → (t ≡ false) × (e ≡ r)
 missed true c e r o = search rules
 missed false c e r o = (refl, cc)
 
@@ -36,15 +35,13 @@ pub record Kept (text kept : List ℕ) (i : ℕ) : Type 0 where
 
 module _ (text : List ℕ) where
   -- One press more.
-  pub kept_more : (kept : List ℕ) (i b : ℕ) → i < length text → i < length kept → ok_or (press_byte (get_or text i 0)) CodeMisread ≡ Ok b → length (set kept i b) ≡ length kept → Kept text kept i → Kept text (set kept i b) (i + 1)
-  kept_more kept i b l k e n so =
+  pub kept_more : (kept : List ℕ) (i b : ℕ) → length text ≤ 8 → i < length text → ok_or (press_byte (get_or text i 0)) CodeMisread ≡ Ok b → Kept text kept i → Kept text (set kept i b) (i + 1)
+  kept_more kept i b few l e so =
       let p = taken (is_press (get_or text i 0)) (get_or text i 0) b CodeMisread e in
       record {
-        front =
-            take_more_set kept i b k
-            ∙ (ap (λ f. f ++ (b ∷ [])) so.front ∙ (ap (λ x. take i text ++ (x ∷ [])) p.1 ∙ sym (take_more text i 0 l)));
-        presses = ap all_presses (take_more text i 0 l) ∙ one_more (take i text) (get_or text i 0) so.presses p.0;
-        places = n ∙ so.places;
+        front = cc (take_more_set kept i b (omega (arith, so.places)), take_more text i 0 l, so.front, p.1);
+        presses = rw (take_more text i 0 l) (one_more (take i text) (get_or text i 0) so.presses p.0);
+        places = length-set kept i b ∙ so.places;
       }
 
   -- A byte that is no press.
@@ -52,22 +49,19 @@ module _ (text : List ℕ) where
   misread_at i r l e =
       let m = missed (is_press (get_or text i 0)) (get_or text i 0) CodeMisread r e in
       let n : is_code text ≡ false = and_right _ (all_presses text) (not_all text i l m.0) in
-      rw (m.1, n)
+      rw (n, m.1)
 
   -- Too few or too many bytes.
   pub misread_length : (length text < 1) ⊎ ((1 ≤ length text) × (8 < length text)) → Err CodeMisread ≡ code_read text
-  misread_length (inl h) = let n : is_code text ≡ false = and_left _ (all_presses text) (and_left _ _ (lt-leb _ _ h)) in rw n
-  misread_length (inr h) = let n : is_code text ≡ false = and_left _ (all_presses text) (and_right _ _ (lt-leb _ _ h.1)) in rw n
+  misread_length (inl h) = grind (arith, nat_tests)
+  misread_length (inr h) = grind (arith, nat_tests)
 
-  module _ (kept : List ℕ) (i : ℕ) (low : 1 ≤ length text) (high : length text ≤ 8) (done : length text ≤ i) (within : i ≤ length text) (so : Kept text kept i) where
-    is_code_lem : is_code text ≡ true
-    is_code_lem =
-        and_from _ (all_presses text) (and_from _ _ (le-leb 1 (length text) low) (le-leb (length text) 8 high))
-        (ap all_presses (sym (take_all i text done)) ∙ so.presses)
+  -- All presses are kept: the bytes are a code, and this one.
+  pub read_all : (kept : List ℕ) (i : ℕ) → 1 ≤ length text → length text ≤ 8 → length text ≤ i → i ≤ length text → Kept text kept i → Ok (take (length text) kept) ≡ code_read text
+  read_all kept i low high done within so =
+      let n : i ≡ length text = omega arith in
+      let k : Kept text kept (length text) = rw n at so in
+      grind (arith, nat_tests, k.front, k.presses, take_all (length text) text (omega arith))
 
-    whole : take (length text) kept ≡ text
-    whole = let n : length text ≡ i = omega arith in ap (λ m. take m kept) n ∙ (so.front ∙ take_all i text done)
-
-    -- All presses are kept: the bytes are a code, and this one.
-    pub read_all : Ok (take (length text) kept) ≡ code_read text
-    read_all = let e = is_code_lem in let f = whole in rw (e, f)
+-- What the check of reading a code is given.
+pub ruleset of_codes = (misread_at, misread_length, read_all)

@@ -13,6 +13,7 @@ impl Key for Card {
 
     ghost lawful = { numbers_lawful (λ a. a.0) };
 
+    #[tactic(auto, using(std::proofs::lemmas::Nat::and_mask))]
     fn hash(&self) -> u32 {
         let low = (self.0 & 0xFFFF_FFFF) as u32;
         let high = (self.0 >> 32) as u32;

@@ -6,6 +6,7 @@ ghost use Rattle.keys.specs.Routes.{chunk_at, prefix_at, parting_at, Parts, Pref
 pub const DEPTH: u32 = 7;
 
 // The chunk of a hash at an index; 0 past the hash's end.
+#[tactic(auto, using(crate::proofs::Chunks::of_routes))]
 pub fn chunk(hash: u32, index: u32) -> u32
     ensures value { result ≡ chunk_at hash index }
     ensures below { result < 32 }
@@ -18,6 +19,7 @@ pub fn chunk(hash: u32, index: u32) -> u32
 }
 
 // The prefix of an index: the hash's low bits, as many as the chunks below the index have.
+#[tactic(auto, using(crate::proofs::Chunks::of_routes))]
 pub fn prefix(hash: u32, index: u32) -> u32
     ensures value { result ≡ prefix_at hash index }
     ensures chunks { (g : ℕ) → PrefixByChunks hash g index }

@@ -1,7 +1,7 @@
 -- What one hash more adds: the indices at which just one other hash has gone along with it.
-use Rattle.std.proofs.Common.{◌≡◌, ℕ, zero, suc, ◌+◌, ◌-◌, ◌<◌, ◌≤◌, min, eqb, leb, ◌⊎◌, List, [], ◌∷◌, ◌++◌, map, length, fold, sym, refl, ap, ◌∙◌, subst, inl, inr, ⊎_elim, add_assoc, arith}
+use Rattle.std.proofs.Common.{◌≡◌, ℕ, zero, suc, ◌+◌, ◌-◌, ◌≤◌, min, eqb, leb, List, [], ◌∷◌, ◌++◌, map, length, fold, sym, ap, ◌∙◌, inl, inr, ⊎_elim, arith}
 use Rattle.std.proofs.lemmas.Bool.Decides.{nat_tests}
-use Rattle.std.proofs.lemmas.Bool.{eq-eqb, ne_eqb, cases_lt, le-leb, lt-leb}
+use Rattle.std.proofs.lemmas.Bool.{cases_lt}
 use Rattle.std.proofs.lemmas.List.{map_push}
 use Rattle.keys.specs.Routes.{prefix_at, parting_at, Parts}
 use Rattle.keys.proofs.Chunks.{prefix_by_chunks, parting_parts}
@@ -17,39 +17,26 @@ abbrev pub Ordered : ℕ × ℕ → Type 0
 Ordered two = (two.1 ≤ two.0) × (two.0 ≤ 7)
 
 told_more : (two : ℕ × ℕ) (depth index n : ℕ) → Ordered two → Told two index n → Told (larger_two two depth) index (n + one_if (leb index depth))
-told_more two depth index n o t = more two.0 two.1 o.0 t
-  where
-    more : (a b : ℕ) → b ≤ a → min n 2 ≡ one_if (leb index a) + one_if (leb index b) → min (n + one_if (leb index depth)) 2 ≡ one_if (leb index (larger_two (a, b) depth).0) + one_if (leb index (larger_two (a, b) depth).1)
-    more a b o t = grind (arith, nat_tests)
+told_more two depth index n o t = grind (arith, nat_tests, o.0, t)
 
 ordered_more : (two : ℕ × ℕ) (depth : ℕ) → depth ≤ 7 → Ordered two → Ordered (larger_two two depth)
-ordered_more two depth d o = (first two.0 two.1 o.0, second two.0 two.1 o.1)
-  where
-    first : (a b : ℕ) → b ≤ a → (larger_two (a, b) depth).1 ≤ (larger_two (a, b) depth).0
-    first a b o = grind (arith, nat_tests)
-
-    second : (a b : ℕ) → a ≤ 7 → (larger_two (a, b) depth).0 ≤ 7
-    second a b o = grind (arith, nat_tests)
+ordered_more two depth d o = (grind (arith, nat_tests, o.0), grind (arith, nat_tests, o.1))
 
 module _ (h : ℕ) where
   -- Two hashes share the prefix of an index exactly if they part at it or deeper.
   along : (g index : ℕ) → index ≤ 7 → eqb (prefix_at g index) (prefix_at h index) ≡ leb index (parting_at h g 0)
-  along g index l = by (cases_lt (parting_at h g 0) index)
-    where
-      at : Parts h g 0 (parting_at h g 0)
-      at = parting_parts h g 0
-
-      by : (parting_at h g 0 < index) ⊎ (index ≤ parting_at h g 0) → eqb (prefix_at g index) (prefix_at h index) ≡ leb index (parting_at h g 0)
-      by (inl k) =
-          ne_eqb _ _
-          (λ e.
-          ⊎_elim (λ apart. apart ((prefix_by_chunks h g index).chunks (sym e) (parting_at h g 0) (omega arith) k))
-          (λ (s : parting_at h g 0 ≡ 7). omega arith)
-          at.apart)
-          ∙ sym (lt-leb index (parting_at h g 0) k)
-      by (inr k) =
-          eq-eqb _ _ (sym ((prefix_by_chunks h g index).shared (λ i low high. at.together i low (omega arith))))
-          ∙ sym (le-leb index (parting_at h g 0) k)
+  along g index l =
+      let at : Parts h g 0 (parting_at h g 0) = parting_parts h g 0 in
+      elim (cases_lt (parting_at h g 0) index) [
+        | inl k ↦
+            let apart : (prefix_at g index ≡ prefix_at h index) → ⊥ =
+            λ e.
+            ⊎_elim (λ differ. differ ((prefix_by_chunks h g index).chunks (sym e) (parting_at h g 0) (omega arith) k))
+            (λ (s : parting_at h g 0 ≡ 7). omega arith)
+            at.apart in
+            grind (arith, nat_tests)
+        | inr k ↦ grind (arith, nat_tests, (prefix_by_chunks h g index).shared (λ i low high. at.together i low (omega arith)))
+      ]
 
   abbrev deeper : ℕ × ℕ → ℕ → ℕ × ℕ
   deeper two g = larger_two two (parting_at h g 0)
@@ -59,14 +46,12 @@ module _ (h : ℕ) where
   ordered_fold (g ∷ others) two o = ordered_fold others (deeper two g) (ordered_more two (parting_at h g 0) (parting_parts h g 0).inside o)
 
   told_fold : (index : ℕ) → index ≤ 7 → (others : List ℕ) (two : ℕ × ℕ) (n : ℕ) → Ordered two → Told two index n → Told (fold deeper two others) index (n + occurrences (prefix_at h index) (map (λ g. prefix_at g index) others))
-  told_fold index l [] two n o t = let e : n + 0 ≡ n = omega arith in rw e t
+  told_fold index l [] two n o t = omega arith
   told_fold index l (g ∷ others) two n o t =
-      let rest = occurrences (prefix_at h index) (map (λ g. prefix_at g index) others) in
-      let e : n + (one_if (eqb (prefix_at g index) (prefix_at h index)) + rest) ≡ n + one_if (leb index (parting_at h g 0)) + rest =
-      ap (λ b. n + (one_if b + rest)) (along g index l) ∙ sym (add_assoc n (one_if (leb index (parting_at h g 0))) rest) in
-      subst (λ m. Told (fold deeper (deeper two g) others) index m) (sym e)
-      (told_fold index l others (deeper two g) (n + one_if (leb index (parting_at h g 0))) (ordered_more two (parting_at h g 0) (parting_parts h g 0).inside o)
-      (told_more two (parting_at h g 0) index n o t))
+      let depth = parting_at h g 0 in
+      let more = told_more two depth index n o t in
+      let all = told_fold index l others (deeper two g) (n + one_if (leb index depth)) (ordered_more two depth (parting_parts h g 0).inside o) more in
+      omega (arith, all, ap one_if (along g index l))
 
   pub deepest_ordered : (others : List ℕ) → Ordered (deepest_two_of h others)
   unfolding deepest_two_of
@@ -76,25 +61,15 @@ module _ (h : ℕ) where
   alone : (others : List ℕ) (index : ℕ) → 1 ≤ index → index ≤ 7 → one_if (eqb (occurrences (prefix_at h index) (map (λ g. prefix_at g index) others)) 1) ≡ one_if (leb index (deepest_two_of h others).0) - one_if (leb index (deepest_two_of h others).1)
   unfolding deepest_two_of
   alone others index low high =
-      single (fold deeper (0, 0) others).0 (fold deeper (0, 0) others).1 _ (ordered_fold others (0, 0) (omega arith, omega arith)).0
-      (told_fold index high others (0, 0) 0 (omega arith, omega arith) (none index low))
-    where
-      none : (index : ℕ) → 1 ≤ index → Told (0, 0) index 0
-      none index l = grind (arith, nat_tests)
+      let o : Ordered (0, 0) = (omega arith, omega arith) in
+      grind (arith, nat_tests, (ordered_fold others (0, 0) o).0, told_fold index high others (0, 0) 0 o (grind (arith, nat_tests)))
 
-      single : (a b n : ℕ) → b ≤ a → min (0 + n) 2 ≡ one_if (leb index a) + one_if (leb index b) → one_if (eqb n 1) ≡ one_if (leb index a) - one_if (leb index b)
-      single a b n o t = grind (arith, nat_tests)
-
-summed_add : (f g k : ℕ → ℕ) (n : ℕ) → ((index : ℕ) → 1 ≤ index → index ≤ n → f index ≡ g index + k index) → summed f n ≡ summed g n + summed k n
-summed_add f g k zero e = refl
-summed_add f g k (suc n) e =
-    let below = summed_add f g k n (λ index low high. e index low (omega arith)) in
+summed_more : (f g : ℕ → ℕ) (a b n : ℕ) → b ≤ a → ((index : ℕ) → 1 ≤ index → index ≤ n → f index ≡ g index + (one_if (leb index a) - one_if (leb index b))) → summed f n ≡ summed g n + (min a n - min b n)
+summed_more f g a b zero o e = omega arith
+summed_more f g a b (suc n) o e =
+    let below = summed_more f g a b n o (λ index low high. e index low (omega arith)) in
     let here = e (suc n) (omega arith) (omega arith) in
-    omega arith
-
-summed_steps : (a b n : ℕ) → b ≤ a → summed (λ index. one_if (leb index a) - one_if (leb index b)) n ≡ min a n - min b n
-summed_steps a b zero o = omega arith
-summed_steps a b (suc n) o = let below = summed_steps a b n o in grind (arith, nat_tests)
+    grind (arith, nat_tests)
 
 -- The cells for one hash more.
 pub cells_more : (hashes : List ℕ) (h : ℕ) → cells_for (hashes ++ (h ∷ [])) ≡ cells_for hashes + ((deepest_two_of h hashes).0 - (deepest_two_of h hashes).1)
@@ -104,11 +79,8 @@ cells_more hashes h =
     let b = (deepest_two_of h hashes).1 in
     let o = deepest_ordered h hashes in
     let sum =
-    summed_add (λ index. length (shared_prefixes (hashes ++ (h ∷ [])) index)) (λ index. length (shared_prefixes hashes index)) (λ index. one_if (leb index a) - one_if (leb index b)) 7
+    summed_more (λ index. length (shared_prefixes (hashes ++ (h ∷ [])) index)) (λ index. length (shared_prefixes hashes index)) a b 7 o.0
     (λ index low high.
     ap (λ xs. length (repeats xs)) (map_push (λ g. prefix_at g index) hashes h)
     ∙ (repeats_push (map (λ g. prefix_at g index) hashes) (prefix_at h index) ∙ ap (λ n. length (shared_prefixes hashes index) + n) (alone h hashes index low high))) in
-    let steps = summed_steps a b 7 o.0 in
-    let l = o.1 in
-    let k = o.0 in
-    omega arith
+    omega (arith, sum, o.0, o.1)

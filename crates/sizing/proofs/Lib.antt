@@ -1,5 +1,4 @@
 pub mod Repeats
-pub mod Pigeons
 pub mod Choosing
 pub mod Below
 pub mod Deepest

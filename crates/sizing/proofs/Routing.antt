@@ -1,5 +1,6 @@
 -- The text of a route, chunk by chunk.
 use Rattle.std.proofs.Common.{◌≡◌, ℕ, zero, suc, ◌+◌, ◌-◌, ◌≤◌, List, ◌++◌, append_assoc, refl, codes, decimal, arith}
+use native.Mathlib.Numerals.{unary_clauses}
 use Rattle.keys.specs.Routes.{chunk_at}
 use Rattle.sizing.specs.Lines.{route_text}
 
@@ -10,7 +11,7 @@ route_to h (suc more) = route_to h more ++ (codes "." ++ decimal (chunk_at h (su
 
 pub route_more : (h index : ℕ) → 1 ≤ index → route_to h (index - 1) ++ (codes "." ++ decimal (chunk_at h index)) ≡ route_to h (index + 1 - 1)
 route_more h zero l = absurd (omega arith)
-route_more h (suc more) l = let e : suc more + 1 - 1 ≡ suc more = omega arith in let f : suc more - 1 ≡ more = omega arith in rw (e, f)
+route_more h (suc more) l = simp unary_clauses
 
 pub route_whole : (h : ℕ) → route_to h 6 ≡ route_text h
 route_whole h = simp append_assoc refl

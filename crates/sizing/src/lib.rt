@@ -61,6 +61,7 @@ pub fn capacity_for<K: Key>(heap: Global, keys: &[K]) -> Result<Capacity, AllocE
 }
 
 // The keys in the order in which they come, those that equal an earlier one left out.
+#[tactic(auto, unfolding(crate::specs::Demand::different))]
 fn different<K: Key>(heap: Global, keys: &[K]) -> Result<Vec<K>, AllocError>
     ensures { IfOk result (λ chosen. chosen.items ≡ different K.eq keys.now) }
 {
@@ -74,6 +75,7 @@ fn different<K: Key>(heap: Global, keys: &[K]) -> Result<Vec<K>, AllocError>
 }
 
 // The cells for different keys with these hashes.
+#[tactic(auto, using(crate::proofs::Progress::of_cells))]
 fn cells_for(hashes: &[u32]) -> usize
     ensures { result ≡ cells_for hashes.now }
 {

@@ -18,6 +18,7 @@ impl<'a> TryFrom<&'a [u8]> for Code {
 
     ghost try_from_gives = { λ bytes read. in_presses read ≡ code_read bytes.now };
 
+    #[tactic(auto, using(crate::proofs::Keypresses::of_codes))]
     fn try_from(bytes: &'a [u8]) -> Result<Code, Refusal> {
         let count = bytes.len();
         if count < 1 || count > 8 {

@@ -1,14 +1,10 @@
-use Rattle.std.proofs.Common.{◌≡◌, ◌-◌, ◌++◌, codes, decimal, refl, ap, ◌∙◌, subst, List, ℕ, arith}
+use Rattle.std.proofs.Common.{◌≡◌, ◌-◌, ◌++◌, codes, decimal, refl, ap, ◌∙◌, ℕ, arith}
 use Rattle.std.proofs.lemmas.Grind.{put_two}
-use Rattle.std.specs.Fmt.{HasWritten}
 use Rattle.sizing.proofs.Routing.{route_to, route_more, route_whole}
 use Rattle.sizing.proofs.lines.RouteDisplay.fmt.Goals as goal
 
 pub loop-index-init : goal.loop-index-init
-loop-index-init g c =
-    λ plain.
-    subst (λ (l : List ℕ). HasWritten g.W.Write.write_str_gives c.args.f.now l c.write.new.self) (ap decimal c.chunk.ensures.value)
-    (c.in_ok-write.ensures.writes plain refl)
+loop-index-init g c = λ plain. rw c.chunk.ensures.value at (c.in_ok-write.ensures.writes plain refl)
 
 pub loop-index-preserved : goal.loop-index-preserved
 loop-index-preserved g c =
@@ -22,5 +18,4 @@ pub returns-clause-writes : goal.returns-clause-writes
 returns-clause-writes g c =
     λ plain ok.
     let end : c.loop-index.index - 1 ≡ 6 = omega arith in
-    subst (λ (l : List ℕ). HasWritten g.W.Write.write_str_gives c.args.f.now l c.loop-index.f)
-    (ap (route_to c.args.self.now.0) end ∙ route_whole c.args.self.now.0) (c.loop-index.invariant plain)
+    rw (end, route_whole) at (c.loop-index.invariant plain)

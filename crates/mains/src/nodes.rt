@@ -8,7 +8,7 @@ ghost use Rattle.mains.specs.declared.Branch.TheVariants.{Pair, Cell};
 use crate::rows::{put_in, take_out};
 use crate::{Branch, Node};
 
-// How many chunks there are.
+// How many chunks there are. A chunk is any number in these calls: a type of its own would ask more of callers.
 const CHUNKS: u32 = 32;
 
 // The bit of a chunk in a bitmap; none past the last chunk.

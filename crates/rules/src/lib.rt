@@ -1,4 +1,7 @@
 // The types of a table: its memory, its seats, its calls. The rules about them are definitions, in specs/.
+//
+// A table's records are plain numbers in fixed memory, copied whole: arrays with a count and no Vec, numbers of places and no
+// Box, and the same fields in every phase, those that a phase does not use cleared and not left out.
 #![tactic(auto)]
 
 ghost use Rattle.rules.specs.Memory.{Memory};
@@ -28,8 +31,7 @@ pub enum Ask {
     Cut,
 }
 
-// What a seat will do at its next turn. A plain word of its record, and no closure, since a board may be pulled between any
-// two turns; what a phase needs lies beside it in fixed memory.
+// What a seat will do at its next turn. A plain word of its record, and no closure: a board may be pulled between any two turns.
 #[derive(Clone, Copy)]
 pub enum Phase {
     // No call is open.
@@ -69,8 +71,7 @@ pub struct NewCell {
     pub main: u16,
 }
 
-// The cells from the root to the one that the seat has come to; the last one's index is `depth`. An array and no Vec, as in
-// `Pending` and `Table`: the records are plain numbers in fixed memory.
+// The cells from the root to the one that the seat has come to; the last one's index is `depth`.
 #[derive(Clone, Copy)]
 pub struct Path {
     pub cells: [u16; 8],
@@ -91,7 +92,7 @@ pub struct Pending {
     pub adds: bool,
 }
 
-// The result of a call: settled with its stamp, or what comes out if the pending swap says yes.
+// The result of a call: settled with its stamp, or what comes out if the pending swap says yes; absent where none is pending.
 #[derive(Clone, Copy)]
 pub struct Verdict {
     pub outcome: Outcome,

@@ -45,7 +45,7 @@ impl Code {
     }
 }
 
-// The byte of a press: a digit, a star or a hash sign.
+// The byte of a press: a digit, a star or a hash sign. A function and no type: a press is no more than its byte.
 pub fn press(c: char) -> Option<u8>
     ensures { result ≡ press_byte c }
 {
@@ -65,7 +65,8 @@ pub fn fnv_1a(bytes: &[u8]) -> u32
     )
 }
 
-// Codes are equal if they are the same presses in the same order. Not derived: the bytes past the presses take no part.
+// Codes are equal if they are the same presses in the same order. Not derived: for that the bytes past the presses would have to
+// be pinned by the type, wherever a code is made.
 impl PartialEq for Code {
     ghost eq = { λ a b. bytes_eq (presses_of a) (presses_of b) };
 

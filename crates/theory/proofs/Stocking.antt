@@ -52,20 +52,13 @@ module _ {A : Type 0} (at : Link → ℕ) (what : Link → A) where
         let e = length-set xs (at i) (what i) in
         stand_sets ks _ (λ i m. f i (Memᴰ.tail m)) k m (omega (arith, l, e))
 
--- The same of the words and the mains into which a chain is written.
-module _ (P : ℕ → Type 0) (ks : List Link) (words : List ℕ) (f : (k : Link) → Memᴰ k ks → P k.place.main) where
-  words_stay : (c : ℕ) → Standing P words c → Standing P (with_cells words ks) c
-  words_stay c s = subst (λ (ws : List ℕ). Standing P ws c) (sym (cells_filled words ks)) (sets_stand _ _ P ks words f c s)
+  -- The same of what a chain was written into.
+  module _ (P : A → Type 0) (ks : List Link) (xs ys : List A) (written : ys ≡ filled at what xs ks) (f : (k : Link) → Memᴰ k ks → P (what k)) where
+    stays : (j : ℕ) → Standing P xs j → Standing P ys j
+    stays j s = subst (λ zs. Standing P zs j) (sym written) (sets_stand P ks xs f j s)
 
-  words_new : (k : Link) → Memᴰ k ks → (c : ℕ) → k.place.cell ≡ c → c < length words → Standing P (with_cells words ks) c
-  words_new k m c e l = subst (λ (ws : List ℕ). Standing P ws c) (sym (cells_filled words ks)) (subst (Standing P _) e (stand_sets _ _ P ks words f k m (subst (λ i. i < length words) (sym e) l)))
-
-module _ (P : Main → Type 0) (ks : List Link) (mains : List Main) (f : (k : Link) → Memᴰ k ks → P k.holds) where
-  mains_stay : (n : ℕ) → Standing P mains n → Standing P (with_mains mains ks) n
-  mains_stay n s = subst (λ (xs : List Main). Standing P xs n) (sym (mains_filled mains ks)) (sets_stand _ _ P ks mains f n s)
-
-  mains_new : (k : Link) → Memᴰ k ks → (n : ℕ) → k.place.main ≡ n → n < length mains → Standing P (with_mains mains ks) n
-  mains_new k m n e l = subst (λ (xs : List Main). Standing P xs n) (sym (mains_filled mains ks)) (subst (Standing P _) e (stand_sets _ _ P ks mains f k m (subst (λ i. i < length mains) (sym e) l)))
+    new_at : (k : Link) → Memᴰ k ks → (j : ℕ) → at k ≡ j → j < length xs → Standing P ys j
+    new_at k m j e l = subst (λ zs. Standing P zs j) (sym written) (subst (Standing P _) e (stand_sets P ks xs f k m (subst (λ i. i < length xs) (sym e) l)))
 
 -- WHAT AN EDIT PREPARES
 
@@ -109,8 +102,8 @@ module _ {K : Type 0} (same : K → K → Bool) (hash : K → ℕ) {s : State K}
         by : Memᴰ c picks.cells ⊎ Memᴰ c cells → Standing Held (with_cells s.memory.words links) c
         by (inl m) =
             let i = chain_cell (first picks.pairs) picks.cells (rest picks.mains) edit picked.cells.few as_many.0 c m in
-            words_new Held links s.memory.words main_held i.0 i.1 c i.2 (picked.cells.free c m).0
-        by (inr m) = let h = k.held c m in words_stay Held links s.memory.words main_held c (h.0, h.1, Memᴰ.append_right picks.mains h.2)
+            new_at _ _ Held links s.memory.words _ (cells_filled s.memory.words links) main_held i.0 i.1 c i.2 (picked.cells.free c m).0
+        by (inr m) = let h = k.held c m in stays _ _ Held links s.memory.words _ (cells_filled s.memory.words links) main_held c (h.0, h.1, Memᴰ.append_right picks.mains h.2)
 
     -- The mains with the new one, but without the chain.
     abbrev bare : List Main
@@ -123,17 +116,17 @@ module _ {K : Type 0} (same : K → K → Bool) (hash : K → ℕ) {s : State K}
         below i m = let l = (picked.mains.free i m).0 in (omega (arith, l), omega (arith, l))
 
         new : (n ≡ first picks.mains) ⊎ Memᴰ n (rest picks.mains) → Memᴰ n picks.mains → Standing Sound (with_mains bare links) n
-        new (inl e) m = mains_stay Sound links bare linked n (subst (Standing Sound bare) (sym e) (stands_set Sound s.memory.mains _ _ made (below (first picks.mains) made_picked).1))
+        new (inl e) m = stays _ _ Sound links bare _ (mains_filled bare links) linked n (subst (Standing Sound bare) (sym e) (stands_set Sound s.memory.mains _ _ made (below (first picks.mains) made_picked).1))
         new (inr r) m =
             let i = chain_main (first picks.pairs) picks.cells (rest picks.mains) edit as_many.1 as_many.2 n r in
-            mains_new Sound links bare linked i.0 i.1 n i.2 (subst (λ j. n < j) (sym (length-set s.memory.mains _ _)) (below n m).1)
+            new_at _ _ Sound links bare _ (mains_filled bare links) linked i.0 i.1 n i.2 (subst (λ j. n < j) (sym (length-set s.memory.mains _ _)) (below n m).1)
 
         by : Memᴰ n picks.mains ⊎ Memᴰ n mains → (n < main_limit) × Standing Sound (with_mains bare links) n
         by (inl m) = ((below n m).0, new (first_or_rest picks.mains n m) m)
         by (inr m) =
             let h = k.there n m in
             let i = inside s.memory.mains n h.0 h.1 in
-            (i.0, mains_stay Sound links bare linked n (set_stands Sound s.memory.mains _ _ made n (h.0, i.1, fine_more (λ c m. Memᴰ.append_right picks.cells m) h.2)))
+            (i.0, stays _ _ Sound links bare _ (mains_filled bare links) linked n (set_stands Sound s.memory.mains _ _ made n (h.0, i.1, fine_more (λ c m. Memᴰ.append_right picks.cells m) h.2)))
 
     -- The places taken join the stock.
     pub stock_made : Stock (picks.cells ++ cells) (picks.mains ++ mains) (made_memory s t edit picks)

@@ -1,10 +1,20 @@
-use Rattle.std.proofs.Common.{◌∙◌, arith}
+use Rattle.std.proofs.Common.{◌∙◌, ◌<◌, ◌++◌, length, take, arith}
 use Rattle.std.proofs.lemmas.Bool.Decides.{nat_tests}
-use Rattle.banks.proofs.Joins.{read_low, read_high}
+use Rattle.banks.proofs.Joins.{low_placed, high_placed, read_part}
 use Rattle.banks.proofs.joined.JoinedBankBank.read.Goals as goal
 
 pub returns-in-None : goal.returns-in-None
-returns-in-None g c = record { answer = c.read.ensures.answer ∙ read_low 65535 _ _ _ (omega (arith, c.in-None.ensures)) (grind (arith, nat_tests)) }
+returns-in-None g c =
+    let low = g.A.Bank.words c.args.self.now.first in
+    let high = g.B.Bank.words c.args.self.now.second in
+    let k : c.args.cell < length (take 65535 (low ++ high)) = grind (arith, nat_tests) in
+    let p = low_placed 65535 low high c.args.cell k (omega (arith, c.in-None.ensures)) in
+    record { answer = c.read.ensures.answer ∙ read_part p }
 
 pub returns-in-Some : goal.returns-in-Some
-returns-in-Some g c = record { answer = c.read-in-Some.ensures.answer ∙ read_high 65535 _ _ _ _ (omega (arith, c.in-Some.ensures)) (grind (arith, nat_tests)) }
+returns-in-Some g c =
+    let low = g.A.Bank.words c.args.self.now.first in
+    let high = g.B.Bank.words c.args.self.now.second in
+    let k : c.args.cell < length (take 65535 (low ++ high)) = grind (arith, nat_tests) in
+    let p = high_placed 65535 low high c.args.cell k c.in-Some.rest (omega (arith, c.in-Some.ensures)) in
+    record { answer = c.read-in-Some.ensures.answer ∙ read_part p }

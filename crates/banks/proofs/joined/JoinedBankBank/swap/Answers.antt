@@ -1,6 +1,6 @@
-use Rattle.std.proofs.Common.{◌∙◌, ◌<◌, ◌+◌, ◌≡◌, ◌++◌, length, take, sym, arith}
+use Rattle.std.proofs.Common.{◌∙◌, ◌<◌, ◌++◌, length, take, arith, sym}
 use Rattle.std.proofs.lemmas.Bool.Decides.{nat_tests}
-use Rattle.banks.proofs.Joins.{swap_low, swapped_low, swap_high, swapped_high, swapped_past}
+use Rattle.banks.proofs.Joins.{low_placed, high_placed, swap_part, swapped_part, swapped_past}
 use Rattle.banks.proofs.joined.JoinedBankBank.swap.Goals as goal
 
 pub returns-in_err-inside-clause-after : goal.returns-in_err-inside-clause-after
@@ -10,20 +10,14 @@ pub returns-in-None : goal.returns-in-None
 returns-in-None g c =
     let low = g.A.Bank.words c.args.self.now.first in
     let high = g.B.Bank.words c.args.self.now.second in
-    let h : c.args.cell < length low = omega (arith, c.in-None.ensures) in
     let k : c.args.cell < length (take 65535 (low ++ high)) = grind (arith, nat_tests) in
-    record {
-      answer = c.swap.ensures.answer ∙ swap_low 65535 low high c.args.cell h c.args.old k;
-      after = swapped_low 65535 low high c.args.cell h _ c.args.old c.args.new k c.swap.ensures.after;
-    }
+    let p = low_placed 65535 low high c.args.cell k (omega (arith, c.in-None.ensures)) in
+    record { answer = c.swap.ensures.answer ∙ swap_part p c.args.old; after = swapped_part p _ _ _ c.swap.ensures.after }
 
 pub returns-in-Some : goal.returns-in-Some
 returns-in-Some g c =
     let low = g.A.Bank.words c.args.self.now.first in
     let high = g.B.Bank.words c.args.self.now.second in
-    let e : c.in-Some.rest + length low ≡ c.args.cell = omega (arith, c.in-Some.ensures) in
     let k : c.args.cell < length (take 65535 (low ++ high)) = grind (arith, nat_tests) in
-    record {
-      answer = c.swap-in-Some.ensures.answer ∙ swap_high 65535 low high c.in-Some.rest c.args.cell e c.args.old k;
-      after = swapped_high 65535 low high c.in-Some.rest c.args.cell e _ c.args.old c.args.new k c.swap-in-Some.ensures.after;
-    }
+    let p = high_placed 65535 low high c.args.cell k c.in-Some.rest (omega (arith, c.in-Some.ensures)) in
+    record { answer = c.swap-in-Some.ensures.answer ∙ swap_part p c.args.old; after = swapped_part p _ _ _ c.swap-in-Some.ensures.after }

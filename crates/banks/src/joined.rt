@@ -31,6 +31,7 @@ impl<A: Bank, B: Bank> Bank for JoinedBank<A, B> {
         (self.first.size() + self.second.size()).min(MOST_CELLS)
     }
 
+    // The half is chosen in each call, since each asks another thing of it.
     fn read(&self, cell: usize) -> Result<u16, Refusal> {
         inside(cell, self.size())?;
         match cell.checked_sub(self.first.size()) {

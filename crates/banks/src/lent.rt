@@ -1,7 +1,7 @@
 // Banks over lent memory, whatever their words lie in.
 ghost use Rattle.std.specs.Prelude.{◌≡◌};
 
-// Lent memory, in which each kind of bank has its own cells.
+// Lent memory; each kind of bank says how its cells lie in it.
 #[derive(Drop)]
 pub struct LentBank<'a, T> {
     pub(crate) memory: &'a mut [T],

@@ -15,7 +15,5 @@ pub fn number(text: &[u8]) -> Option<u64>
     if first == b'0' && text.len() > 1 {
         return None;
     }
-    // Named, since the fault that is planted here alters it.
-    let n = std::str::from_utf8(text).ok()?.parse::<u64>().ok()?;
-    Some(n)
+    std::str::from_utf8(text).ok()?.parse().ok()
 }

@@ -1,7 +1,8 @@
 // The types of a table: its memory, its seats, its calls. The rules about them are definitions, in specs/.
 //
-// A table's records are plain numbers in fixed memory, copied whole: arrays with a count and no Vec, numbers of places and no
-// Box, and the same fields in every phase, those that a phase does not use cleared and not left out.
+// A table's records are plain values in fixed memory, copied whole: arrays with a count and no Vec, numbers of places and no
+// Box. `buried`, `pending` and the outcome are no Options: they are read only in phases that have set them, and each reader
+// would need a case that never comes.
 #![tactic(auto)]
 
 ghost use Rattle.rules.specs.Memory.{Memory};
@@ -92,11 +93,11 @@ pub struct Pending {
     pub adds: bool,
 }
 
-// The result of a call: settled with its stamp, or what comes out if the pending swap says yes; absent where none is pending.
+// The result of a call: settled with its stamp, or what comes out if the pending swap says yes; else it means nothing.
 #[derive(Clone, Copy)]
 pub struct Verdict {
     pub outcome: Outcome,
-    // The number of the turn that fixed the outcome; none while it is only what the swap would bring.
+    // The number of the turn that fixed the outcome; none while the call has not settled.
     pub stamp: Option<u64>,
 }
 

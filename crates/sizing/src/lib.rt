@@ -60,7 +60,8 @@ pub fn capacity_for<K: Key>(heap: Global, keys: &[K]) -> Result<Capacity, AllocE
     })
 }
 
-// The keys in the order in which they come, those that equal an earlier one left out.
+// The keys in the order in which they come, those that equal an earlier one left out. A loop, which hands on that a push had
+// no memory.
 #[tactic(auto, unfolding(crate::specs::Demand::different))]
 fn different<K: Key>(heap: Global, keys: &[K]) -> Result<Vec<K>, AllocError>
     ensures { IfOk result (λ chosen. chosen.items ≡ different K.eq keys.now) }
@@ -74,7 +75,7 @@ fn different<K: Key>(heap: Global, keys: &[K]) -> Result<Vec<K>, AllocError>
     Ok(chosen)
 }
 
-// The cells for different keys with these hashes.
+// The cells for different keys with these hashes. A loop and no sum, since its invariant shows that each addition fits.
 #[tactic(auto, using(crate::proofs::Progress::of_cells))]
 fn cells_for(hashes: &[u32]) -> usize
     ensures { result ≡ cells_for hashes.now }

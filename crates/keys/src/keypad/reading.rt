@@ -25,7 +25,8 @@ impl<'a> TryFrom<&'a [u8]> for Code {
             return Err(Refusal::CodeMisread);
         }
         let mut stored = [0u8; 8];
-        // By index: zipped with its places the line would be no plainer, and the fault planted in it needs the first place.
+        // By index: zipped with its places the line would be no plainer, and the fault planted here, all presses in the first
+        // place, needs an index.
         for (i, byte) in bytes.iter().enumerate() {
             stored[i] = press(char::from(*byte)).ok_or(Refusal::CodeMisread)?;
         }

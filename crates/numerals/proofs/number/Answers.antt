@@ -1,11 +1,9 @@
-use Rattle.std.proofs.Common.{◌≡◌, decimal, IsUtf8, Some, None, subst, sym, arith}
-use Rattle.std.specs.Prelude.{MatchOption}
+use Rattle.std.proofs.Common.{IsUtf8, Some, None, subst, sym, rules, arith}
 use Rattle.std.proofs.lemmas.Bool.Decides.{nat_tests}
 use Rattle.std.proofs.lemmas.Fmt.{IsAscii-decimal}
 use Rattle.std.proofs.lemmas.Str.{IsUtf8-from_ascii}
-use Rattle.numerals.proofs.Digits.{plain, Numberless, read, turned}
+use Rattle.numerals.proofs.Digits.{plain, read, turned}
 use Rattle.numerals.proofs.number.Goals as goal
-use Rattle.numerals.proofs.number.Goals.{After-ok-2}
 
 pub returns-in_err-first : goal.returns-in_err-first
 returns-in_err-first c =
@@ -24,16 +22,9 @@ returns-in_err-ok c =
     (turned _ _ _ c.from_utf8.result None c.in_err-ok.ensures.value c.from_utf8.ensures.cases
     (λ d no n fits t. no.0 (subst IsUtf8 (sym t) (IsUtf8-from_ascii _ (IsAscii-decimal n fits)))))
 
--- What was read of the bytes, which are a text, is their number.
-told : (c : After-ok-2) → MatchOption c.ok-2.result (Numberless c.args.text.now) (λ n. c.args.text.now ≡ decimal n)
-told c =
+pub returns : goal.returns
+returns c =
     let first = c.in_ok-first.ensures.item.3.1 0 in
     let s = turned _ _ Unit c.from_utf8.result (Some c.in_ok-ok.field-0) c.in_ok-ok.ensures.value c.from_utf8.ensures.cases (λ d no. tt) in
-    rw c.ok-2.ensures.value
-    (read c.args.text.now c.parse.result (rw s.0 at c.parse.ensures.value.0) (λ p. omega arith) (λ z. omega (arith, c.else-first-eq48.either)))
-
-pub returns-in_err-n : goal.returns-in_err-n
-returns-in_err-n c = rw c.from_residual-in_err-n.ensures (rw c.in_err-n.was at (told (goal.at.returns-in_err-n c).After-ok-2))
-
-pub returns : goal.returns
-returns c = rw c.in_ok-n.was at (told (goal.at.returns c).After-ok-2)
+    let o = read c.args.text.now c.parse.result (rw s.0 at c.parse.ensures.value.0) (λ p. omega arith) (λ z. omega (arith, c.else-first-eq48.either)) in
+    search (rules, o)

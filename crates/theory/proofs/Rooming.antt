@@ -58,18 +58,10 @@ module _ {K : Type 0} (same : K → K → Bool) (hash : K → ℕ) (laws : KeyLa
   pairs = (counted same hash s.memory).pairs
 
   few_cells : length cells.them ≤ f.cells
-  few_cells =
-      let a = w.cells in
-      let b = cells.many in
-      let c = ap (λ (q : Limits). q.cells) g.steady.limits in
-      omega (arith, a, b, c)
+  few_cells = omega (arith, w.cells, cells.many, ap (λ (q : Limits). q.cells) g.steady.limits)
 
   few_pairs : length pairs.them ≤ f.pairs
-  few_pairs =
-      let a = w.pairs in
-      let b = pairs.many in
-      let c = ap (λ (q : Limits). q.pairs) g.steady.limits in
-      omega (arith, a, b, c)
+  few_pairs = omega (arith, w.pairs, pairs.many, ap (λ (q : Limits). q.pairs) g.steady.limits)
 
   -- The root is reached, for the memory has a cell at least.
   root_reached : Memᴰ 0 cells.them

@@ -293,34 +293,28 @@ module _ {K : Type 0} (same : K → K → Bool) (hash : K → ℕ) where
     clean_no : x.phase ≡ Clean → Sees m x k (missed x) m.words
     clean_no e = cond_both (is_settled x) _ _ (λ p. Sees m x k p m.words) (λ u. Sees.misses e u) (λ u. Sees.gives_up_lem e u)
 
-    looks : (phase : Phase) → x.phase ≡ phase → is_idle phase ≡ false → (o : Option ℕ) → looked_at phase x ≡ o → Sees m x k (decided same hash (look phase x m).seen x k m) (look phase x m).words
-    looks Idle e i o g = absurd (true≢false i)
-    looks Read e i o g = subst (λ (u : Option ℕ). Sees m x k (decided same hash (read_of m u).seen x k m) (read_of m u).words) (sym g) (by o g)
-      where
-        by : (o : Option ℕ) → last_cell x ≡ o → Sees m x k (decided same hash (read_of m o).seen x k m) (read_of m o).words
-        by None g = Sees.unfit (Unfit.nowhere (looked Read e None g))
-        by (Some c) g = read_word c Read e g (read_main c e g) (slice_get m.words c) refl
-    looks Swap e i o g = subst (λ (u : Option ℕ). let l = swap_of m u x.pending.expected x.pending.made in Sees m x k (decided same hash l.seen x k m) l.words) (sym g) (by o g)
-      where
-        by : (o : Option ℕ) → last_cell x ≡ o → (let l = swap_of m o x.pending.expected x.pending.made in Sees m x k (decided same hash l.seen x k m) l.words)
-        by None g = Sees.unfit (Unfit.nowhere (looked Swap e None g))
-        by (Some c) g = swap_word c Swap e g (swap_yes c e g) (Sees.loses e) (slice_get m.words c) refl
-    looks Climb e i o g = subst (λ (u : Option ℕ). Sees m x k (decided same hash (read_of m u).seen x k m) (read_of m u).words) (sym g) (by o g)
-      where
-        by : (o : Option ℕ) → last_cell x ≡ o → Sees m x k (decided same hash (read_of m o).seen x k m) (read_of m o).words
-        by None g = Sees.unfit (Unfit.nowhere (looked Climb e None g))
-        by (Some c) g = read_word c Climb e g (climb_main c e g) (slice_get m.words c) refl
-    looks Parent e i o g = subst (λ (u : Option ℕ). Sees m x k (decided same hash (read_of m u).seen x k m) (read_of m u).words) (sym g) (by o g)
-      where
-        by : (o : Option ℕ) → parent_cell x ≡ o → Sees m x k (decided same hash (read_of m o).seen x k m) (read_of m o).words
-        by None g = Sees.unfit (Unfit.nowhere (looked Parent e None g))
-        by (Some c) g = read_word c Parent e g (parent_main c e g) (slice_get m.words c) refl
-    looks Clean e i o g = subst (λ (u : Option ℕ). let l = swap_of m u x.pending.expected x.pending.made in Sees m x k (decided same hash l.seen x k m) l.words) (sym g) (by o g)
-      where
-        by : (o : Option ℕ) → parent_cell x ≡ o → (let l = swap_of m o x.pending.expected x.pending.made in Sees m x k (decided same hash l.seen x k m) l.words)
-        by None g = Sees.unfit (Unfit.nowhere (looked Clean e None g))
-        by (Some c) g = swap_word c Clean e g (λ w. Sees.cleans e c g w leaves) (clean_no e) (slice_get m.words c) refl
+    -- A phase that reads the cell it looks at, and one that swaps it.
+    reads_at : (phase : Phase) → x.phase ≡ phase
+        → ((c : ℕ) → looked_at phase x ≡ Some c → (n : ℕ) → slice_get m.words c ≡ Some n → (o : Option Main) → main_at m.mains n ≡ o → Sees m x k (decided same hash (saw_main m.words n o).seen x k m) (saw_main m.words n o).words)
+        → (o : Option ℕ) → looked_at phase x ≡ o → Sees m x k (decided same hash (read_of m o).seen x k m) (read_of m o).words
+    reads_at phase e f None g = Sees.unfit (Unfit.nowhere (looked phase e None g))
+    reads_at phase e f (Some c) g = read_word c phase e g (f c g) (slice_get m.words c) refl
+
+    swaps_at : (phase : Phase) → x.phase ≡ phase
+        → ((c : ℕ) → looked_at phase x ≡ Some c → slice_get m.words c ≡ Some x.pending.expected → Sees m x k (decide same hash phase (Swapped true) x k m) (set m.words c x.pending.made))
+        → Sees m x k (decide same hash phase (Swapped false) x k m) m.words
+        → (o : Option ℕ) → looked_at phase x ≡ o → (let l = swap_of m o x.pending.expected x.pending.made in Sees m x k (decided same hash l.seen x k m) l.words)
+    swaps_at phase e f denied None g = Sees.unfit (Unfit.nowhere (looked phase e None g))
+    swaps_at phase e f denied (Some c) g = swap_word c phase e g (f c g) denied (slice_get m.words c) refl
+
+    looks : (phase : Phase) → x.phase ≡ phase → is_idle phase ≡ false → Sees m x k (decided same hash (look phase x m).seen x k m) (look phase x m).words
+    looks Idle e i = absurd (true≢false i)
+    looks Read e i = reads_at Read e (λ c g. read_main c e g) (last_cell x) refl
+    looks Swap e i = swaps_at Swap e (λ c g. swap_yes c e g) (Sees.loses e) (last_cell x) refl
+    looks Climb e i = reads_at Climb e (λ c g. climb_main c e g) (last_cell x) refl
+    looks Parent e i = reads_at Parent e (λ c g. parent_main c e g) (parent_cell x) refl
+    looks Clean e i = swaps_at Clean e (λ c g w. Sees.cleans e c g w leaves) (clean_no e) (parent_cell x) refl
 
     -- The plan of an open seat with its key follows from what it sees.
     pub sees : is_idle x.phase ≡ false → Sees m x k (keyed same hash (Some k) x m).plan (keyed same hash (Some k) x m).words
-    sees i = looks x.phase refl i (looked_at x.phase x) refl
+    sees i = looks x.phase refl i

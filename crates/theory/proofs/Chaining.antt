@@ -1,5 +1,5 @@
 -- The chain of new cells that an edit makes, in the places taken.
-use Rattle.std.proofs.Common.{◌≡◌, ℕ, zero, suc, ◌+◌, ◌<◌, ◌≤◌, ◌⊎◌, List, [], ◌∷◌, ◌++◌, length, take, replicate, sym, refl, ap, subst, arith, length-append, length-take}
+use Rattle.std.proofs.Common.{◌≡◌, ℕ, zero, suc, ◌+◌, ◌<◌, ◌≤◌, ◌⊎◌, List, [], ◌∷◌, ◌++◌, length, get_or, take, replicate, sym, refl, ap, subst, arith, length-append, length-take}
 use mathlib.Core.List.{Memᴰ}
 use Rattle.rules.specs.Edits.{Link, linked, chain_for, links_of, places, first, rest}
 use Rattle.rules.specs.Seats.{no_cell, chain_of}
@@ -22,6 +22,12 @@ rest_in (x ∷ xs) y m = Memᴰ.tail m
 pub first_or_rest : (xs : List ℕ) (y : ℕ) → Memᴰ y xs → (y ≡ first xs) ⊎ Memᴰ y (rest xs)
 first_or_rest xs y m = grind arith
 
+-- What stands in a list stands at some place of it.
+pub member_at : (xs : List ℕ) (x : ℕ) → Memᴰ x xs → (i : ℕ) × (i < length xs) × (get_or xs i 0 ≡ x)
+member_at [] x m = elim m [ ]
+member_at (y ∷ xs) x (Memᴰ.head e) = (0, omega arith, sym e)
+member_at (y ∷ xs) x (Memᴰ.tail m) = let i = member_at xs x m in (suc i.0, omega (arith, i.1), i.2)
+
 -- THE CHAIN OF A FORK
 
 module _ (f : Fork) (p : ℕ) where
@@ -31,18 +37,12 @@ module _ (f : Fork) (p : ℕ) where
   linked_in index (c ∷ cells) (n ∷ mains) k (Memᴰ.tail m) = let i = linked_in (index + 1) cells mains k m in (Memᴰ.tail i.0, Memᴰ.tail i.1)
   linked_in index _ _ k m = elim m [ ]
 
-  -- As far as there are main places, each cell has its link; and as far as there are cells, each main place.
-  linked_cell : (index : ℕ) (cells mains : List ℕ) → length cells ≤ length mains → (c : ℕ) → Memᴰ c cells → (k : Link) × Memᴰ k (linked f p index cells mains) × (k.place.cell ≡ c)
-  linked_cell index [] mains l c m = elim m [ ]
-  linked_cell index (d ∷ cells) [] l c m = absurd (omega arith)
-  linked_cell index (d ∷ cells) (n ∷ mains) l c (Memᴰ.head e) = (_, Memᴰ.head refl, sym e)
-  linked_cell index (d ∷ cells) (n ∷ mains) l c (Memᴰ.tail m) = let i = linked_cell (index + 1) cells mains (omega arith) c m in (i.0, Memᴰ.tail i.1, i.2)
-
-  linked_main : (index : ℕ) (cells mains : List ℕ) → length mains ≤ length cells → (n : ℕ) → Memᴰ n mains → (k : Link) × Memᴰ k (linked f p index cells mains) × (k.place.main ≡ n)
-  linked_main index cells [] l n m = elim m [ ]
-  linked_main index [] (n ∷ mains) l i m = absurd (omega arith)
-  linked_main index (d ∷ cells) (n ∷ mains) l i (Memᴰ.head e) = (_, Memᴰ.head refl, sym e)
-  linked_main index (d ∷ cells) (n ∷ mains) l i (Memᴰ.tail m) = let j = linked_main (index + 1) cells mains (omega arith) i m in (j.0, Memᴰ.tail j.1, j.2)
+  -- Where a cell and a main place were given, a link lies in both.
+  linked_at : (index : ℕ) (cells mains : List ℕ) (i : ℕ) → i < length cells → i < length mains → (k : Link) × Memᴰ k (linked f p index cells mains) × (k.place.cell ≡ get_or cells i 0) × (k.place.main ≡ get_or mains i 0)
+  linked_at index [] mains i l m = absurd (omega arith)
+  linked_at index (c ∷ cells) [] i l m = absurd (omega arith)
+  linked_at index (c ∷ cells) (n ∷ mains) zero l m = (_, Memᴰ.head refl, refl, refl)
+  linked_at index (c ∷ cells) (n ∷ mains) (suc i) l m = let k = linked_at (index + 1) cells mains i (omega arith) (omega arith) in (k.0, Memᴰ.tail k.1, k.2, k.3)
 
   linked_short : (index : ℕ) (cells mains : List ℕ) → length (places (linked f p index cells mains)) ≤ length cells
   linked_short index (c ∷ cells) (n ∷ mains) = let l = linked_short (index + 1) cells mains in omega (arith, l)
@@ -71,26 +71,16 @@ kind : (e : Edit) → Kind e
 kind (Split f) = Kind.fork f
 kind _ = Kind.plain refl (λ p c m. refl)
 
-no_place : {A : Type 0} {x n : ℕ} (xs : List ℕ) → n ≡ 0 → length xs ≤ n → Memᴰ x xs → A
-no_place xs e l m = grind arith
-
 module _ (p : ℕ) (cells mains : List ℕ) where
   pub chain_in_lem : (e : Edit) (k : Link) → Memᴰ k (chain_for e p cells mains) → Memᴰ k.place.cell cells × Memᴰ k.place.main mains
   chain_in_lem e k m = grind (arith, linked_in)
 
-  pub chain_cell : (e : Edit) → length cells ≤ links_of e → length cells ≤ length mains → (c : ℕ) → Memᴰ c cells → (k : Link) × Memᴰ k (chain_for e p cells mains) × (k.place.cell ≡ c)
-  chain_cell e few l c m = by e (kind e) few
+  pub chain_at : (e : Edit) (i : ℕ) → i < links_of e → i < length cells → i < length mains → (k : Link) × Memᴰ k (chain_for e p cells mains) × (k.place.cell ≡ get_or cells i 0) × (k.place.main ≡ get_or mains i 0)
+  chain_at e i few l m = by e (kind e) few
     where
-      by : (e : Edit) → Kind e → length cells ≤ links_of e → (k : Link) × Memᴰ k (chain_for e p cells mains) × (k.place.cell ≡ c)
-      by e (Kind.plain o q) few = no_place cells o few m
-      by e (Kind.fork f) few = linked_cell f p (f.index + 1) cells mains l c m
-
-  pub chain_main : (e : Edit) → length mains ≤ links_of e → length mains ≤ length cells → (n : ℕ) → Memᴰ n mains → (k : Link) × Memᴰ k (chain_for e p cells mains) × (k.place.main ≡ n)
-  chain_main e few l n m = by e (kind e) few
-    where
-      by : (e : Edit) → Kind e → length mains ≤ links_of e → (k : Link) × Memᴰ k (chain_for e p cells mains) × (k.place.main ≡ n)
-      by e (Kind.plain o q) few = no_place mains o few m
-      by e (Kind.fork f) few = linked_main f p (f.index + 1) cells mains l n m
+      by : (e : Edit) → Kind e → i < links_of e → (k : Link) × Memᴰ k (chain_for e p cells mains) × (k.place.cell ≡ get_or cells i 0) × (k.place.main ≡ get_or mains i 0)
+      by e (Kind.plain o q) few = absurd (omega (arith, o))
+      by e (Kind.fork f) few = linked_at f p (f.index + 1) cells mains i l m
 
   pub chain_short : (e : Edit) → length (places (chain_for e p cells mains)) ≤ length cells
   chain_short e = grind (arith, linked_short)

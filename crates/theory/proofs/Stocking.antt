@@ -11,7 +11,7 @@ use Rattle.rules.specs.Perform.{Picks, Picked, pairs_for, enough, worded, value_
 use Rattle.rules.specs.Seats.{seat_of}
 use Rattle.rules.specs.declared.Edit.{Edit}
 use Rattle.theory.proofs.Chained.{filled, cells_filled, mains_filled}
-use Rattle.theory.proofs.Chaining.{first_in, rest_in, first_or_rest, chain_in_lem, chain_cell, chain_main}
+use Rattle.theory.proofs.Chaining.{first_in, rest_in, first_or_rest, member_at, chain_in_lem, chain_at}
 use Rattle.theory.proofs.Fineness.{fine_more}
 use Rattle.theory.proofs.ListPlaces.{Standing, set_stands, stands_set}
 use Rattle.theory.proofs.ShownMemory.{inside}
@@ -101,8 +101,9 @@ module _ {K : Type 0} (same : K → K → Bool) (hash : K → ℕ) {s : State K}
       where
         by : Memᴰ c picks.cells ⊎ Memᴰ c cells → Standing Held (with_cells s.memory.words links) c
         by (inl m) =
-            let i = chain_cell (first picks.pairs) picks.cells (rest picks.mains) edit picked.cells.few as_many.0 c m in
-            new_at _ _ Held links s.memory.words _ (cells_filled s.memory.words links) main_held i.0 i.1 c i.2 (picked.cells.free c m).0
+            let at = member_at picks.cells c m in
+            let i = chain_at (first picks.pairs) picks.cells (rest picks.mains) edit at.0 (omega (arith, at.1, picked.cells.few)) at.1 (omega (arith, at.1, as_many.0)) in
+            new_at _ _ Held links s.memory.words _ (cells_filled s.memory.words links) main_held i.0 i.1 c (i.2 ∙ at.2) (picked.cells.free c m).0
         by (inr m) = let h = k.held c m in stays _ _ Held links s.memory.words _ (cells_filled s.memory.words links) main_held c (h.0, h.1, Memᴰ.append_right picks.mains h.2)
 
     -- The mains with the new one, but without the chain.
@@ -118,8 +119,9 @@ module _ {K : Type 0} (same : K → K → Bool) (hash : K → ℕ) {s : State K}
         new : (n ≡ first picks.mains) ⊎ Memᴰ n (rest picks.mains) → Memᴰ n picks.mains → Standing Sound (with_mains bare links) n
         new (inl e) m = stays _ _ Sound links bare _ (mains_filled bare links) linked n (subst (Standing Sound bare) (sym e) (stands_set Sound s.memory.mains _ _ made (below (first picks.mains) made_picked).1))
         new (inr r) m =
-            let i = chain_main (first picks.pairs) picks.cells (rest picks.mains) edit as_many.1 as_many.2 n r in
-            new_at _ _ Sound links bare _ (mains_filled bare links) linked i.0 i.1 n i.2 (subst (λ j. n < j) (sym (length-set s.memory.mains _ _)) (below n m).1)
+            let at = member_at (rest picks.mains) n r in
+            let i = chain_at (first picks.pairs) picks.cells (rest picks.mains) edit at.0 (omega (arith, at.1, as_many.1)) (omega (arith, at.1, as_many.2)) at.1 in
+            new_at _ _ Sound links bare _ (mains_filled bare links) linked i.0 i.1 n (i.3 ∙ at.2) (subst (λ j. n < j) (sym (length-set s.memory.mains _ _)) (below n m).1)
 
         by : Memᴰ n picks.mains ⊎ Memᴰ n mains → (n < main_limit) × Standing Sound (with_mains bare links) n
         by (inl m) = ((below n m).0, new (first_or_rest picks.mains n m) m)

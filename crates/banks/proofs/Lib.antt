@@ -1,3 +1,5 @@
+pub mod Ways
+pub mod Parts
 pub mod Front
 pub mod Joins
 pub mod Pairs

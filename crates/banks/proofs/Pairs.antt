@@ -1,5 +1,5 @@
 -- Words in bytes, two bytes a word.
-use Rattle.std.proofs.Common.{◌≡◌, ℕ, zero, suc, ◌+◌, ◌*◌, ◌/◌, ◌<◌, List, [], ◌∷◌, length, get_or, set, refl, arith}
+use Rattle.std.proofs.Common.{◌≡◌, ℕ, zero, suc, ◌+◌, ◌*◌, ◌/◌, ◌<◌, List, [], ◌∷◌, length, get_or, take, set, refl, arith, length-take}
 use native.Mathlib.Numerals.{unary_clauses}
 use Rattle.banks.specs.Layout.{paired}
 
@@ -7,6 +7,10 @@ pub length_paired : (bytes : List ℕ) → length (paired bytes) ≡ length byte
 length_paired [] = refl
 length_paired (high ∷ []) = refl
 length_paired (high ∷ (low ∷ bytes)) = let e = length_paired bytes in omega arith
+
+-- Both bytes of each of the first n words are there.
+pub pair_in_lem : (n : ℕ) (bytes : List ℕ) (cell : ℕ) → cell < length (take n (paired bytes)) → 2 * cell + 1 < length bytes
+pair_in_lem n bytes cell h = omega (arith, length_paired, length-take n (paired bytes))
 
 pub get_paired : (bytes : List ℕ) (cell : ℕ) → cell < length (paired bytes) → get_or bytes (2 * cell) 0 * 256 + get_or bytes (2 * cell + 1) 0 ≡ get_or (paired bytes) cell 0
 get_paired [] cell h = absurd (omega arith)

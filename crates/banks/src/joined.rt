@@ -31,29 +31,36 @@ impl<A: Bank, B: Bank> Bank for JoinedBank<A, B> {
         (self.first.size() + self.second.size()).min(MOST_CELLS)
     }
 
-    // The half is chosen in each call, since each asks another thing of it.
+    // The half is chosen in each call, since each asks another thing of it. A cell past the end is left to the second
+    // half's own refusal, so that no size but the first half's is asked.
     fn read(&self, cell: usize) -> Result<u16, Refusal> {
-        inside(cell, self.size())?;
-        match cell.checked_sub(self.first.size()) {
-            None => self.first.read(cell),
-            Some(rest) => self.second.read(rest),
+        let start = self.first.size();
+        if cell < start {
+            self.first.read(cell)
+        } else {
+            inside(cell, MOST_CELLS)?;
+            self.second.read(cell - start)
         }
     }
 
     // The half's own swap, which may be one step of its bus.
     fn swap(&mut self, cell: usize, old: u16, new: u16) -> Result<bool, Refusal> {
-        inside(cell, self.size())?;
-        match cell.checked_sub(self.first.size()) {
-            None => self.first.swap(cell, old, new),
-            Some(rest) => self.second.swap(rest, old, new),
+        let start = self.first.size();
+        if cell < start {
+            self.first.swap(cell, old, new)
+        } else {
+            inside(cell, MOST_CELLS)?;
+            self.second.swap(cell - start, old, new)
         }
     }
 
     fn put(&mut self, cell: usize, word: u16) -> Result<(), Refusal> {
-        inside(cell, self.size())?;
-        match cell.checked_sub(self.first.size()) {
-            None => self.first.put(cell, word),
-            Some(rest) => self.second.put(rest, word),
+        let start = self.first.size();
+        if cell < start {
+            self.first.put(cell, word)
+        } else {
+            inside(cell, MOST_CELLS)?;
+            self.second.put(cell - start, word)
         }
     }
 }

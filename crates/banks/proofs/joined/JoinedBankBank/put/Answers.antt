@@ -1,20 +1,33 @@
-use Rattle.std.proofs.Common.{◌∙◌, ◌<◌, ◌++◌, length, take, arith}
+use Rattle.std.proofs.Common.{◌∙◌, ◌<◌, ◌++◌, arith, sym}
+use Rattle.std.proofs.lemmas.List.{set_past}
+use Rattle.std.proofs.lemmas.Result.{err_from_is_err_and}
 use Rattle.std.proofs.lemmas.Bool.Decides.{nat_tests}
-use Rattle.banks.proofs.Joins.{low_placed, high_placed, put_part, set_part}
+use Rattle.banks.specs.Layout.{capped, capped_few}
+use Rattle.banks.proofs.Ways.{refused, refused_above}
+use Rattle.banks.proofs.Parts.{put_part, set_part}
+use Rattle.banks.proofs.Joins.{sits_low, sits_high}
 use Rattle.banks.proofs.joined.JoinedBankBank.put.Goals as goal
 
-pub returns-in-None : goal.returns-in-None
-returns-in-None g c =
+pub returns-then-cell-start : goal.returns-then-cell-start
+returns-then-cell-start g c =
     let low = g.A.Bank.words c.args.self.now.first in
     let high = g.B.Bank.words c.args.self.now.second in
-    let k : c.args.cell < length (take 65535 (low ++ high)) = grind (arith, nat_tests) in
-    let p = low_placed 65535 low high c.args.cell k (omega (arith, c.in-None.ensures)) in
-    record { answer = c.put.ensures.answer ∙ put_part p; after = set_part p _ _ c.put.ensures.after }
+    let few = g.A.Bank.few c.args.self.now.first in
+    let sits = sits_low 65535 low high c.args.cell (omega arith) (omega arith) in
+    record { answer = c.put.ensures.answer ∙ put_part sits; after = set_part sits _ _ c.put.ensures.after }
 
-pub returns-in-Some : goal.returns-in-Some
-returns-in-Some g c =
+pub returns-in_err-inside : goal.returns-in_err-inside
+returns-in_err-inside g c =
+    let all = g.A.Bank.words c.args.self.now.first ++ g.B.Bank.words c.args.self.now.second in
+    let words = capped all in
+    let told = refused_above words c.args.cell _ 65535 _ (capped_few all) c.in_err-inside.ensures in
+    let p = err_from_is_err_and c.from_residual.result c.from_residual.ensures.1 in
+    rw (p.1, p.2) (record { answer = told; after = sym (set_past words c.args.cell c.args.word (refused words c.args.cell tt _ told)) })
+
+pub returns-in_ok-inside : goal.returns-in_ok-inside
+returns-in_ok-inside g c =
     let low = g.A.Bank.words c.args.self.now.first in
     let high = g.B.Bank.words c.args.self.now.second in
-    let k : c.args.cell < length (take 65535 (low ++ high)) = grind (arith, nat_tests) in
-    let p = high_placed 65535 low high c.args.cell k c.in-Some.rest (omega (arith, c.in-Some.ensures)) in
-    record { answer = c.put-in-Some.ensures.answer ∙ put_part p; after = set_part p _ _ c.put-in-Some.ensures.after }
+    let k : c.args.cell < 65535 = grind (arith, nat_tests) in
+    let sits = sits_high 65535 low high c.args.cell k _ c.size-start.ensures.answer c.if-cell-start.false in
+    record { answer = c.put-else-cell-start.ensures.answer ∙ put_part sits; after = set_part sits _ _ c.put-else-cell-start.ensures.after }

@@ -1,23 +1,32 @@
-use Rattle.std.proofs.Common.{◌∙◌, ◌<◌, ◌++◌, length, take, arith, sym}
+use Rattle.std.proofs.Common.{◌∙◌, ◌<◌, ◌++◌, arith, sym}
+use Rattle.std.proofs.lemmas.Result.{err_from_is_err_and}
 use Rattle.std.proofs.lemmas.Bool.Decides.{nat_tests}
-use Rattle.banks.proofs.Joins.{low_placed, high_placed, swap_part, swapped_part, swapped_past}
+use Rattle.banks.specs.Layout.{capped, capped_few}
+use Rattle.banks.proofs.Ways.{refused, refused_above, swapped_past}
+use Rattle.banks.proofs.Parts.{swap_part, swapped_after}
+use Rattle.banks.proofs.Joins.{sits_low, sits_high}
 use Rattle.banks.proofs.joined.JoinedBankBank.swap.Goals as goal
 
-pub returns-in_err-inside-clause-after : goal.returns-in_err-inside-clause-after
-returns-in_err-inside-clause-after g c = sym (swapped_past _ _ _ _ (let e = c.in_err-inside.ensures in grind (arith, nat_tests)))
-
-pub returns-in-None : goal.returns-in-None
-returns-in-None g c =
+pub returns-then-cell-start : goal.returns-then-cell-start
+returns-then-cell-start g c =
     let low = g.A.Bank.words c.args.self.now.first in
     let high = g.B.Bank.words c.args.self.now.second in
-    let k : c.args.cell < length (take 65535 (low ++ high)) = grind (arith, nat_tests) in
-    let p = low_placed 65535 low high c.args.cell k (omega (arith, c.in-None.ensures)) in
-    record { answer = c.swap.ensures.answer ∙ swap_part p c.args.old; after = swapped_part p _ _ _ c.swap.ensures.after }
+    let few = g.A.Bank.few c.args.self.now.first in
+    let sits = sits_low 65535 low high c.args.cell (omega arith) (omega arith) in
+    record { answer = c.swap.ensures.answer ∙ swap_part sits c.args.old; after = swapped_after sits _ _ _ c.swap.ensures.after }
 
-pub returns-in-Some : goal.returns-in-Some
-returns-in-Some g c =
+pub returns-in_err-inside : goal.returns-in_err-inside
+returns-in_err-inside g c =
+    let all = g.A.Bank.words c.args.self.now.first ++ g.B.Bank.words c.args.self.now.second in
+    let words = capped all in
+    let told = refused_above words c.args.cell _ 65535 _ (capped_few all) c.in_err-inside.ensures in
+    let p = err_from_is_err_and c.from_residual.result c.from_residual.ensures.1 in
+    rw (p.1, p.2) (record { answer = told; after = sym (swapped_past words c.args.cell c.args.old c.args.new (refused words c.args.cell _ _ told)) })
+
+pub returns-in_ok-inside : goal.returns-in_ok-inside
+returns-in_ok-inside g c =
     let low = g.A.Bank.words c.args.self.now.first in
     let high = g.B.Bank.words c.args.self.now.second in
-    let k : c.args.cell < length (take 65535 (low ++ high)) = grind (arith, nat_tests) in
-    let p = high_placed 65535 low high c.args.cell k c.in-Some.rest (omega (arith, c.in-Some.ensures)) in
-    record { answer = c.swap-in-Some.ensures.answer ∙ swap_part p c.args.old; after = swapped_part p _ _ _ c.swap-in-Some.ensures.after }
+    let k : c.args.cell < 65535 = grind (arith, nat_tests) in
+    let sits = sits_high 65535 low high c.args.cell k _ c.size-start.ensures.answer c.if-cell-start.false in
+    record { answer = c.swap-else-cell-start.ensures.answer ∙ swap_part sits c.args.old; after = swapped_after sits _ _ _ c.swap-else-cell-start.ensures.after }

@@ -11,20 +11,24 @@ use Rattle.mains.specs.declared.Branch.{Branch}
 use Rattle.mains.specs.declared.Node.{Node}
 use Rattle.mains.proofs.Bits.{bit_low, set_bit}
 use Rattle.mains.proofs.Positions.{position_within, position_before, position_grows, position_apart}
-use Rattle.mains.proofs.Gains.{Gains, position_upto, position_beyond, gains_or, gains_xor}
+use Rattle.mains.proofs.Gains.{Gains, position_upto, position_beyond, gains_or_flag, gains_xor_flag}
 use Rattle.mains.proofs.Shifts.{Opens, length_in, length_out, in_at, in_opens, out_opens}
 use Rattle.mains.proofs.Standing.{at_set, at_clear, none_has, none_clear, stands_from}
 
 -- The branch of a chunk has its place in the row.
-placed : (n : Node) (q : ℕ) → WellFormed n → q < 32 → position n.bitmap q < length n.branches
+pub placed : (n : Node) (q : ℕ) → WellFormed n → q < 32 → position n.bitmap q < length n.branches
 placed n q w low = omega (arith, w.row, position_within n.bitmap q)
 
 -- One of the 32 chunks can take a branch if it has none; no other can.
-pub grows : (n : Node) (q : ℕ) (x : Branch) → q < 32 → branch_at n q ≡ None → inserted n q x ≡ grown n q x
-grows n q x low none = grind (arith, nat_tests)
+pub free_from : (n : Node) (q : ℕ) → q < 32 → branch_at n q ≡ None → is_free n q ≡ true
+free_from n q low none = grind (arith, nat_tests)
 
 pub free_low : (n : Node) (q : ℕ) → is_free n q ≡ true → q < 32
 free_low n q t = grind (arith, nat_tests)
+
+-- At a chunk that can take one an insertion makes the grown node.
+pub grows : (n : Node) (q : ℕ) (x : Branch) → q < 32 → branch_at n q ≡ None → inserted n q x ≡ grown n q x
+grows n q x low none = grind (arith, nat_tests)
 
 -- A chunk that has a branch is one of the 32.
 pub has_low : (n : Node) (q : ℕ) → WellFormed n → has n.bitmap q ≡ true → q < 32
@@ -67,7 +71,7 @@ inserted_stands n q x w low none =
     let i = position b q in
     let m = grown n q x in
     let within = placed n q w low in
-    let g = gains_or b q low (none_clear n q none) in
+    let g = gains_or_flag b q low (none_clear n q none) in
     let here : branch_at m q ≡ Some x = grind (arith, at_set m q g.raised, position_upto b q m.bitmap q g, in_at n.branches i x within filler) in
     rw (grows n q x low none)
     (stands_from m (branch_at n) q (Some x) here (beside n m q i (rw (grows n q x low none) at (inserted_formed n q x w)) g refl (in_opens n.branches i x within filler)))
@@ -84,7 +88,7 @@ removed_stands n q w =
     cond_both (has b q) m n (λ k. Stands k (edited (branch_at n) q None))
     (λ t.
     let low = has_low n q w t in
-    let g = gains_xor b q low (set_bit b q t) in
+    let g = gains_xor_flag b q low (set_bit b q t) in
     let opens = out_opens n.branches (position b q) filler (placed n q w low) filler in
     let same = position_upto m.bitmap q b q g (omega arith) in
     stands_from m (branch_at n) q None (at_clear m q g.clear) (λ p ne. sym (beside m n q (position b q) w g same opens p ne)))

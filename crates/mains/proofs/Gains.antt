@@ -23,20 +23,27 @@ position_beyond b q c zero g l = absurd (omega arith)
 position_beyond b q c (suc p) g l =
     grind (arith, position_suc, g.others p, g.clear, g.raised, position_upto b q c p g, position_beyond b q c p g, cases_eq p q)
 
-pub gains_or : (b q : ℕ) → q < 32 → bit b q ≡ 0 → Gains b q (bit_or b (flag q))
-gains_or b q low e =
-    rw (flag_low q low)
-    (record {
+-- A bitmap with a clear bit raised has that bit more.
+pub gains_or : (b q : ℕ) → bit b q ≡ 0 → Gains b q (bit_or b (2 ^ q))
+gains_or b q e =
+    record {
       clear = e;
       raised = omega (arith, bit_at_or b (2 ^ q) q, bit_at-pow_same q);
       others = λ p ne. omega (arith, bit_at_or b (2 ^ q) p, bit_at-pow_other q p ne);
-    })
+    }
 
-pub gains_xor : (c q : ℕ) → q < 32 → bit c q ≡ 1 → Gains (bit_xor c (flag q)) q c
-gains_xor c q low e =
-    rw (flag_low q low)
-    (record {
+-- A bitmap has a set bit more than the one with that bit cleared.
+pub gains_xor : (c q : ℕ) → bit c q ≡ 1 → Gains (bit_xor c (2 ^ q)) q c
+gains_xor c q e =
+    record {
       clear = omega (arith, bit_at_xor c (2 ^ q) q, bit_at-pow_same q);
       raised = e;
       others = λ p ne. omega (arith, bit_at_xor c (2 ^ q) p, bit_at-pow_other q p ne, bit_at-lt c p);
-    })
+    }
+
+-- Both by the flag of one of the 32 chunks.
+pub gains_or_flag : (b q : ℕ) → q < 32 → bit b q ≡ 0 → Gains b q (bit_or b (flag q))
+gains_or_flag b q low e = rw (flag_low q low) (gains_or b q e)
+
+pub gains_xor_flag : (c q : ℕ) → q < 32 → bit c q ≡ 1 → Gains (bit_xor c (flag q)) q c
+gains_xor_flag c q low e = rw (flag_low q low) (gains_xor c q e)

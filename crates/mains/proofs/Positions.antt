@@ -61,13 +61,17 @@ position_ones b (suc q) =
     rw (position_suc, ← one-add q, mod-pow-add b 1 q, ones_cat q (bit b q) (b % 2 ^ q) (mod_below b (2 ^ q) (pow_pos q)), ones_digit (bit b q) (bit_at-lt b q))
     (omega (arith, position_ones b q))
 
--- All of the one bits of a bitmap of 32 bits.
-pub position_all : (b : ℕ) → b < 2 ^ 32 → ones b ≡ position b 32
-position_all b fits = ap ones (sym (mod-eq_of_lt fits)) ∙ position_ones b 32
+-- A position is also the number of one bits that the mask of the lower chunks leaves.
+pub position_masked : (b q : ℕ) → ones (bit_and b (2 ^ q - 1)) ≡ position b q
+position_masked b q = rw and_mask (position_ones b q)
+
+-- All of the one bits of a bitmap of k bits.
+pub position_all : (b k : ℕ) → b < 2 ^ k → ones b ≡ position b k
+position_all b k fits = ap ones (sym (mod-eq_of_lt fits)) ∙ position_ones b k
 
 -- The bits that a chunk's flag, less one, leaves are those below it; past the last chunk they are all.
 pub position_flagged : (b q f : ℕ) → q < 32 → f ≡ flag q → ones (bit_and b (f - 1)) ≡ position b q
-position_flagged b q f low e = rw (e, flag_low q low, and_mask) (position_ones b q)
+position_flagged b q f low e = rw (e, flag_low q low) (position_masked b q)
 
 pub flagged_low : (b q f : ℕ) → q < 32 → f ≡ flag q → ones (bit_and b (f - 1)) ≤ q
 flagged_low b q f low e = omega (arith, position_flagged b q f low e, position_within b q)

@@ -1,4 +1,5 @@
-// Lists of pairs: what is listed, and the list after an edit.
+// Lists of pairs: what is listed, and the list after an edit. An edit copies the list where it changes it, and returns there:
+// handed on behind the `if`, the row would be copied more often.
 ghost use Rattle.std.specs.Prelude.{◌≡◌, ◌<◌, ◌≤◌, [], ◌∷◌, ◌++◌, length, slice_set};
 ghost use Rattle.std.specs.List.{slice_get, remove};
 ghost use Rattle.mains.specs.Lists.{listed, appended, relisted, unlisted, of_pairs};
@@ -47,38 +48,44 @@ impl PairList {
     }
 
     // The list with one more pair at its end; a full list stays as it is.
-    pub fn appended(mut self, pair: u16) -> PairList
+    pub fn appended(self, pair: u16) -> PairList
         ensures value { result ≡ appended self pair }
         ensures law { self.count < 32 → Relists self (listed self ++ (pair ∷ [])) result }
     {
         let len = usize::from(self.count);
         if len < MOST_PAIRS {
-            self.pairs[len] = pair;
-            self.count += 1;
+            let mut list = self;
+            list.pairs[len] = pair;
+            list.count += 1;
+            return list;
         }
         self
     }
 
     // The list with another pair at a place; a place past its end changes nothing.
-    pub fn replaced(mut self, place: usize, pair: u16) -> PairList
+    pub fn replaced(self, place: usize, pair: u16) -> PairList
         ensures value { result ≡ relisted self place pair }
         ensures law { Relists self (slice_set (listed self) place pair) result }
     {
         if place < self.len() {
-            self.pairs[place] = pair;
+            let mut list = self;
+            list.pairs[place] = pair;
+            return list;
         }
         self
     }
 
     // The list without the pair at a place, the others in order; a place past its end changes nothing.
-    pub fn removed(mut self, place: usize) -> PairList
+    pub fn removed(self, place: usize) -> PairList
         ensures value { result ≡ unlisted self place }
         ensures law { Relists self (remove (listed self) place) result }
     {
         let len = self.len();
         if place < len {
-            take_out(&mut self.pairs, place, 0);
-            self.count = (len - 1) as u8;
+            let mut list = self;
+            take_out(&mut list.pairs, place, 0);
+            list.count = (len - 1) as u8;
+            return list;
         }
         self
     }

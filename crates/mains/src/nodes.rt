@@ -1,4 +1,5 @@
-// Branch nodes: what stands at a chunk, and the node after an edit.
+// Branch nodes: what stands at a chunk, and the node after an edit. An edit copies the node where it changes it, and returns
+// there: handed on behind the `if`, the row would be copied more often.
 ghost use Rattle.std.specs.Prelude.{◌≡◌, ◌^◌, ◌<◌, ◌≤◌, true, ◌≢◌};
 ghost use Rattle.mains.specs.Bits.{has, position, flag};
 ghost use Rattle.mains.specs.Nodes.{is_free, branch_at, inserted, replaced, removed, empty_node, of_one, of_two, size, lone};
@@ -76,39 +77,45 @@ impl Node {
     }
 
     // The node with a branch at a chunk that has none; any other chunk changes nothing.
-    pub fn inserted(mut self, chunk: u32, branch: Branch) -> Node
+    pub fn inserted(self, chunk: u32, branch: Branch) -> Node
         ensures value { result ≡ inserted self chunk branch }
         ensures law { Inserts self chunk branch result }
     {
         if self.is_free(chunk) {
             let place = self.position(chunk) as usize;
-            put_in(&mut self.branches, place, branch);
-            self.bitmap |= flag(chunk);
+            let mut node = self;
+            put_in(&mut node.branches, place, branch);
+            node.bitmap |= flag(chunk);
+            return node;
         }
         self
     }
 
     // The node with another branch at a chunk that has one; any other chunk changes nothing.
-    pub fn replaced(mut self, chunk: u32, branch: Branch) -> Node
+    pub fn replaced(self, chunk: u32, branch: Branch) -> Node
         ensures value { result ≡ replaced self chunk branch }
         ensures law { Replaces self chunk branch result }
     {
         if self.has(chunk) {
             let place = self.position(chunk) as usize;
-            self.branches[place] = branch;
+            let mut node = self;
+            node.branches[place] = branch;
+            return node;
         }
         self
     }
 
     // The node without the branch at a chunk; a chunk that has none changes nothing.
-    pub fn removed(mut self, chunk: u32) -> Node
+    pub fn removed(self, chunk: u32) -> Node
         ensures value { result ≡ removed self chunk }
         ensures law { Removes self chunk result }
     {
         if self.has(chunk) {
             let place = self.position(chunk) as usize;
-            take_out(&mut self.branches, place, Branch::Pair(0));
-            self.bitmap ^= flag(chunk);
+            let mut node = self;
+            take_out(&mut node.branches, place, Branch::Pair(0));
+            node.bitmap ^= flag(chunk);
+            return node;
         }
         self
     }

@@ -27,10 +27,18 @@ face_alike xs ys X f q = grind (arith, gather_alike)
 pub face_cell : {K : Type 0} (xs : List (K × ℕ)) (X : Main) (q d : ℕ) → face xs X q ≡ on d → HasCell X q d
 face_cell xs X q d e = grind arith
 
+-- A pair is no cell.
+pub lone_on : {K : Type 0} (o : Option (K × ℕ)) (d : ℕ) → lone o ≡ on d → ⊥
+lone_on o d e = grind arith
+
 -- A named cell is shown.
+pub has_cell : {K : Type 0} (xs : List (K × ℕ)) (X : Main) (q d : ℕ) → HasCell X q d → face xs X q ≡ on d
+has_cell xs X q d e = grind arith
+
+-- So is one that the main of a cell names.
 pub view_cell : {K : Type 0} (m : Mem K) (c q d : ℕ) → HasCell (main m (word m c)) q d → view m c q ≡ on d
 unfolding view
-view_cell m c q d e = grind arith
+view_cell m c q d e = has_cell m.pairs (main m (word m c)) q d e
 
 abbrev pub listed : {A : Type 0} → Option A → List A
 listed none = []

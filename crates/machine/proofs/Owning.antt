@@ -226,15 +226,23 @@ module _ {K : Type 0} (same : K → K → Bool) (hash : K → ℕ) (chunk : ℕ 
   goes_moves m y x (Goes.fails (climb k) b d c cs e n) = Moves.misses (climb k) b d c cs e n
   goes_moves m y x (Goes.fails o b d c cs e n) = Moves.root (clean o b d c cs e n) o
 
+  -- After a swap that said yes, a call has ended, or climbs.
+  pub swept_next : (o : Op K) (c : ℕ) (cs : List ℕ) → (swept o (c ∷ cs) ≡ idle) ⊎ (swept o (c ∷ cs) ≡ read (climb (key o)) (c ∷ cs))
+  swept_next o c cs = grind arith
+
+  -- After a cleaning swap that said yes, a call has ended, starts again, or goes on above.
+  pub returns_next : (o : Op K) (c : ℕ) (cs : List ℕ) → (returns o (c ∷ cs) ≡ idle) ⊎ ((returns o (c ∷ cs) ≡ read o (0 ∷ [])) ⊎ (returns o (c ∷ cs) ≡ read o (c ∷ cs)))
+  returns_next o c cs = grind arith
+
   -- So every exact turn is a step of the machine, and the log of a run by exact turns stands.
   pub turn_step : (s s' : State K) (e : Option (Entry K)) → Turn same hash chunk s e s' → Step same hash chunk s e s'
   turn_step s s' e (Turn.goes t x n l le g) = Step.moves t x n l le (goes_moves s.mem (seat s t) x g)
   turn_step s s' e (Turn.got t k c cs ps l q nt v) = Step.got t k c cs ps l q nt v
   turn_step s s' e (Turn.lacks t k c cs ps l q nt v f) = Step.lacks t k c cs ps l q nt v f
   turn_step s s' e (Turn.prepared t o c cs n mp new m l q al un up fr pr) = Step.prepared t o c cs n mp new m l q al un up fr pr
-  turn_step s s' e (Turn.swapped t o c cs x n mp new l q h) = Step.swapped t o c cs x n mp new (swept o (c ∷ cs)) l q h (grind arith)
+  turn_step s s' e (Turn.swapped t o c cs x n mp new l q h) = Step.swapped t o c cs x n mp new (swept o (c ∷ cs)) l q h (swept_next o c cs)
   turn_step s s' e (Turn.cleaning t o b d c cs n m l q al un cl) = Step.cleaning t o b d c cs n m l q al un cl
-  turn_step s s' e (Turn.cleaned t o b d c cs x n l q h) = Step.cleaned t o b d c cs x n (returns o (c ∷ cs)) l q h (grind arith)
+  turn_step s s' e (Turn.cleaned t o b d c cs x n l q h) = Step.cleaned t o b d c cs x n (returns o (c ∷ cs)) l q h (returns_next o c cs)
 
   -- Every turn keeps the owners.
   pub owning_keeps : (es : List (Entry K)) (s s' : State K) (e : Option (Entry K)) → Turn same hash chunk s e s'

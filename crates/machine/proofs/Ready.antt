@@ -32,11 +32,15 @@ pub data Near {K : Type 0} (same : K → K → Bool) (chunk : ℕ → ℕ → �
   graft : (d : ℕ) (ps qs : List (K × ℕ)) → F ≡ stands ps → G ≡ on d → nth cells 0 ≡ some d → Leads chunk h cells E qs 0 (suc a) → R (find_pair same l ps) (find_pair same l qs)
       → Near same chunk l h a R F G td tomb cells E
 
+-- The chunk q is the chunk r.
+abbrev pub Place : ℕ → ℕ → Type 0
+Place q r = q ≡ r
+
 -- A swap from F to G at index a along h will do R to every key's lookup. It may cut off the cell td, which holds a tomb,
 -- and attach the new cells, which show E.
 pub record Ready {K : Type 0} (same : K → K → Bool) (hash : K → ℕ) (chunk : ℕ → ℕ → ℕ) (R : K → Option (K × ℕ) → Option (K × ℕ) → Type 0) (h a : ℕ)
     (F G : ℕ → Spot K) (Flat : Type 0) (td : Option ℕ) (tomb : Spot K) (cells : List ℕ) (E : ℕ → ℕ → Spot K) : Type 0 where
-  pub spots : (q : ℕ) → Spots (F q) (G q) td tomb (q ≡ chunk h a) cells
+  pub spots : (q : ℕ) → Spots (F q) (G q) td tomb (Place q (chunk h a)) cells
   pub chain : (t e q d : ℕ) → nth cells t ≡ some e → E t q ≡ on d → (q ≡ chunk h (suc a + t)) × (nth cells (suc t) ≡ some d)
   pub short : (t e : ℕ) → nth cells t ≡ some e → suc a + t ≤ 7
   pub homes_new : (t e q : ℕ) (ps : List (K × ℕ)) (x : K × ℕ) → nth cells t ≡ some e → E t q ≡ stands ps → In x ps → Home hash chunk (Level (E t)) h (suc a + t) q x

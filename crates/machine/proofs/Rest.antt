@@ -8,10 +8,14 @@ use Prim.Native.Nat.{ℕ, zero, suc, ◌+◌, ◌-◌, ◌<◌, ◌≤◌}
 use native.Mathlib.Omega.{arith}
 use native.Mathlib.Decide.{ℕ_discrete}
 use lib.Dec.{T}
-use Rattle.machine.specs.Tree.{Level, Spot, stands, on, Tree, Agree, walk, In, Home, Placed}
+use Rattle.machine.specs.Tree.{Spot, stands, on, Tree, Agree, walk, In, Home, Placed}
 use Rattle.machine.proofs.Walk.{some_is, walk_on, walk_back, walk_agree}
 use Rattle.machine.proofs.Graft.{clash}
 use Rattle.machine.specs.Rest.{Held, Shared, Stood, Compact}
+
+-- The same stands at every chunk: a tomb or a list.
+abbrev pub Even : {K : Type 0} → Tree K → ℕ → Type 0
+Even M c = (q r : ℕ) → M c q ≡ M c r
 
 -- A cell has a cell after it, or two different pairs.
 pub data Rich {K : Type 0} (same : K → K → Bool) (M : Tree K) (c : ℕ) : Type 0 where
@@ -22,7 +26,7 @@ pub data Rich {K : Type 0} (same : K → K → Bool) (M : Tree K) (c : ℕ) : Ty
 -- What makes a tree compact.
 pub record Sound {K : Type 0} (same : K → K → Bool) (hash : K → ℕ) (chunk : ℕ → ℕ → ℕ) (M : Tree K) : Type 0 where
   pub low : (h i c : ℕ) → walk chunk M h i ≡ some c → i ≤ 7
-  pub placed : Placed hash chunk M (λ c. Level (M c))
+  pub placed : Placed hash chunk M (Even M)
   pub rich : (h i c : ℕ) → walk chunk M h i ≡ some c → 1 ≤ i → Rich same M c
   pub single : (h i c q : ℕ) (ps : List (K × ℕ)) (x y : K × ℕ) → walk chunk M h i ≡ some c → i < 7 → M c q ≡ stands ps → In x ps → In y ps
       → T (same x.0 y.0)
@@ -58,7 +62,7 @@ module _ {K : Type 0} (same : K → K → Bool) (hash : K → ℕ) (chunk : ℕ 
   -- Every reached pair is so.
   own : (x : K × ℕ) → Held chunk M x → Own hash chunk M x
   own x h =
-      let home : Home hash chunk (Level (M h.cell)) h.along h.index h.place x = s.placed h.along h.index h.cell h.place h.all x h.reached h.shows h.among in
+      let home : Home hash chunk (Even M h.cell) h.along h.index h.place x = s.placed h.along h.index h.cell h.place h.all x h.reached h.shows h.among in
       record {
         index = h.index;
         cell = h.cell;

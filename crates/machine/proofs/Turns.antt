@@ -51,6 +51,10 @@ pub record Quiet {K : Type 0} (x : Seat K) : Type 0 where
   no_pair : (p : ℕ) → MakesPair x p → ⊥
   no_cell_lem : (d : ℕ) → MakesCell x d → ⊥
 
+-- An idle seat is one.
+pub quiet_idle : {K : Type 0} → Quiet {K = K} idle
+quiet_idle = assumption
+
 module _ {K : Type 0} (same : K → K → Bool) (hash : K → ℕ) (chunk : ℕ → ℕ → ℕ) where
   -- One seat is set.
   seats_set : (m m' : Mem K) (xs : List (Seat K)) (t : ℕ) (x : Seat K) → t < length xs → Seats same hash chunk m xs
@@ -103,7 +107,7 @@ module _ {K : Type 0} (same : K → K → Bool) (hash : K → ℕ) (chunk : ℕ 
   -- A seat that writes nothing has what its new record rests on.
   moves_ok : (m : Mem K) (y x : Seat K) → Moves same hash chunk m y x → SeatOK same hash chunk m y → SeatOK same hash chunk m x × Quiet x
   moves_ok m y x (Moves.root y' o) z = (root_ok m (key o), assumption)
-  moves_ok m y x (Moves.rest y') z = (tt, assumption)
+  moves_ok m y x (Moves.rest y') z = (tt, quiet_idle)
   moves_ok m y x (Moves.down o c cs d e) z = (
     (
       inl (walk_on chunk (view m) (hash (key o)) (length cs) c d
@@ -144,7 +148,7 @@ module _ {K : Type 0} (same : K → K → Bool) (hash : K → ℕ) (chunk : ℕ 
   unfolding PlainPair Rising replay_pair
   keeps_settled es s t e l st r h i = record {
     shape = i.shape;
-    seats = seats_quiet s.mem s.mem s.seats t idle (assumption) l i.seats (λ u ne. i.seats.ok u) tt;
+    seats = seats_quiet s.mem s.mem s.seats t idle quiet_idle l i.seats (λ u ne. i.seats.ok u) tt;
     log = record { results = (r, i.log.results); rising = (omega arith, (s.ticks, omega arith, i.log.rising)); held = h };
   }
 
@@ -259,7 +263,7 @@ module _ {K : Type 0} (same : K → K → Bool) (hash : K → ℕ) (chunk : ℕ 
   keeps_swapped laws es s t o c cs e n mp new x l q holds nx i =
       let pend : Pend same hash chunk (Does same hash chunk o) s.mem (key o) c cs e n mp none new = ok_at i.seats t (swap o c cs e n mp new) q in
       let p = path_swung same hash chunk s.mem i.shape (Does same hash chunk o) (key o) c cs e n mp none new pend holds (key o) (c ∷ cs) pend.path in
-      let z : SeatOK same hash chunk (swung s.mem c n) x × Quiet x = elim nx [ inl e ↦ rw e (tt, assumption) | inr e ↦ rw e (p, assumption) ] in
+      let z : SeatOK same hash chunk (swung s.mem c n) x × Quiet x = elim nx [ inl e ↦ rw e (tt, quiet_idle) | inr e ↦ rw e (p, assumption) ] in
       let logged : (gives o ≡ says_pair (plain o) (replay_pair same es)) × ((j : K) → after_pair same (plain o) (replay_pair same es) j ≡ lookup_pair same hash chunk (view (swung s.mem c n)) j) =
       settles laws o (replay_pair same es) (λ j. lookup_pair same hash chunk (view (swung s.mem c n)) j)
       (λ j. rw (i.log.held j) (effect same hash chunk s.mem i.shape (Does same hash chunk o) (key o) c cs e n mp none new pend holds j)) in
@@ -277,7 +281,7 @@ module _ {K : Type 0} (same : K → K → Bool) (hash : K → ℕ) (chunk : ℕ 
       let pend : Pend same hash chunk (Same same hash chunk) s.mem (key o) c cs e n none (some d) [] = (ok_at i.seats t (clean o b d c cs e n) q).1 in
       let p = path_swung same hash chunk s.mem i.shape (Same same hash chunk) (key o) c cs e n none (some d) [] pend holds (key o) (c ∷ cs) pend.path in
       let z : SeatOK same hash chunk (swung s.mem c n) x × Quiet x = elim nx [
-        | inl e ↦ rw e (tt, assumption)
+        | inl e ↦ rw e (tt, quiet_idle)
         | inr (inl e) ↦ rw e (root_ok (swung s.mem c n) (key o), assumption)
         | inr (inr e) ↦ rw e (p, assumption)
       ] in

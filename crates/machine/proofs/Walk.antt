@@ -111,9 +111,13 @@ module _ {K : Type 0} (same : K → K → Bool) (hash : K → ℕ) (chunk : ℕ 
     other_index : (h : ℕ) (j d : ℕ) → j ≢ a → walk chunk M h j ≡ some d → d ≢ c
     other_index h j d ne w e = ne (one.index h h₀ j a c (rw e at w) reached)
 
+    -- Up to index a all walks are as before.
+    pub swap_walk_before : (h n : ℕ) → n ≤ a → walk chunk N h n ≡ walk chunk M h n
+    swap_walk_before h n l = walk_frame chunk M N h n (λ j d l' w. but d (other_index h j d (omega arith) w) (chunk h j))
+
     -- A hash that agrees still leads to c.
     pub swap_walk_here : (h : ℕ) → Agree chunk h h₀ a → walk chunk N h a ≡ some c
-    swap_walk_here h ag = walk_frame chunk M N h a (λ j d l w. but d (other_index h j d (omega arith) w) (chunk h j)) ∙ walk_agree chunk M h h₀ a ag ∙ reached
+    swap_walk_here h ag = swap_walk_before h a (omega arith) ∙ walk_agree chunk M h h₀ a ag ∙ reached
 
     -- The lookup of a key whose hash does not agree is as before.
     pub swap_lookup_apart : (k : K) → ¬ Agree chunk (hash k) h₀ a → lookup_pair same hash chunk N k ≡ lookup_pair same hash chunk M k

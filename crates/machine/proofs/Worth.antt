@@ -13,6 +13,10 @@ use Rattle.machine.specs.Pairs.{worth, find_pair, seek_pair, lookup_pair, replay
 worth_cond : {K : Type 0} (b : Bool) (x y : Option (K × ℕ)) → cond b (worth x) (worth y) ≡ worth (cond b x y)
 worth_cond b x y = grind arith
 
+-- Where there is no value, there is no pair.
+pub worth_none : {K : Type 0} (o : Option (K × ℕ)) → worth o ≡ none → o ≡ none
+worth_none o e = grind arith
+
 pub find_worth : {K : Type 0} (same : K → K → Bool) (k : K) (ps : List (K × ℕ)) → find same k ps ≡ worth (find_pair same k ps)
 unfolding find find_pair
 find_worth same k [] = refl
@@ -20,7 +24,7 @@ find_worth same k (p ∷ ps) = rw (find_worth same k ps) (grind arith)
 
 -- Where no value is found, no pair is.
 pub none_pair : {K : Type 0} (same : K → K → Bool) (k : K) (ps : List (K × ℕ)) → find same k ps ≡ none → find_pair same k ps ≡ none
-none_pair same k ps e = let f = find_worth same k ps in grind arith
+none_pair same k ps e = worth_none (find_pair same k ps) (sym (find_worth same k ps) ∙ e)
 
 module _ {K : Type 0} (same : K → K → Bool) (hash : K → ℕ) (chunk : ℕ → ℕ → ℕ) where
   seek_worth : (M : Tree K) (k : K) (n i c : ℕ) → seek same hash chunk M k n i c ≡ worth (seek_pair same hash chunk M k n i c)

@@ -1,5 +1,5 @@
 -- The chain of new cells that an edit makes, in the places taken.
-use Rattle.std.proofs.Common.{◌≡◌, ℕ, zero, suc, ◌+◌, ◌<◌, ◌≤◌, ◌⊎◌, List, [], ◌∷◌, ◌++◌, length, get_or, take, replicate, sym, refl, ap, subst, arith, length-append, length-take}
+use Rattle.std.proofs.Common.{◌≡◌, ℕ, zero, suc, ◌+◌, ◌-◌, ◌<◌, ◌≤◌, ◌⊎◌, List, [], ◌∷◌, ◌++◌, length, get_or, take, replicate, sym, refl, ap, subst, arith, length-append, length-take}
 use mathlib.Core.List.{Memᴰ}
 use Rattle.rules.specs.Edits.{Link, linked, chain_for, links_of, places, first, rest}
 use Rattle.rules.specs.Seats.{no_cell, chain_of}
@@ -21,6 +21,10 @@ rest_in (x ∷ xs) y m = Memᴰ.tail m
 
 pub first_or_rest : (xs : List ℕ) (y : ℕ) → Memᴰ y xs → (y ≡ first xs) ⊎ Memᴰ y (rest xs)
 first_or_rest xs y m = grind arith
+
+-- The others are one fewer, or none where there is no first.
+pub length_rest : (xs : List ℕ) → length (rest xs) ≡ length xs - 1
+length_rest xs = grind arith
 
 -- What stands in a list stands at some place of it.
 pub member_at : (xs : List ℕ) (x : ℕ) → Memᴰ x xs → (i : ℕ) × (i < length xs) × (get_or xs i 0 ≡ x)

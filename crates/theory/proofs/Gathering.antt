@@ -116,3 +116,10 @@ module _ {K : Type 0} (same : K → K → Bool) (k : K) where
           let a : suc j.0 ≡ i = omega (arith, s.0) in
           let x = below j.0 j.1 refl in
           (x.0, ap (λ (n : ℕ). placed (map shown_pair (y ∷ ys)) n) (sym a) ∙ x.1, x.2, x.3 ∙ s.1)
+
+  -- A key that is found in a list is that of one of its members, which has the value found.
+  pub shown_member : (m z : Memory K) (ps : List ℕ) (ys : List (Pair K)) → pairs_at m.pairs ps ≡ Some ys → ((i : ℕ) → Memᴰ i ps → slice_get z.pairs i ≡ slice_get m.pairs i)
+      → (i w : ℕ) → place_of same k ys ≡ Some (i, w) → (x : K × ℕ) × In x (gather (shown_mem z).pairs ps) × T (same x.0 k) × (x.1 ≡ w)
+  shown_member m z ps ys there kept i w e =
+      let x = place_some ys i w e in
+      (x.0, gathers_in (shown_mem z).pairs ps (map shown_pair ys) i x.0 x.1 (shown_gathers m z ps ys there kept), x.2, x.3)

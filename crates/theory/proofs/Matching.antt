@@ -1,5 +1,5 @@
 -- Pairs and their places, listed side by side.
-use Rattle.std.proofs.Common.{◌≡◌, ℕ, suc, Bool, List, [], ◌∷◌, length, sym, refl, ap, subst, arith}
+use Rattle.std.proofs.Common.{◌≡◌, ℕ, suc, Bool, true, List, [], ◌∷◌, length, sym, refl, ap, ◌∙◌, subst, arith}
 use mathlib.Core.List.{Memᴰ}
 use Rattle.keys.specs.Laws.{KeyLaws}
 use Rattle.rules.specs.PlainMap.{Unlike}
@@ -39,6 +39,15 @@ module _ {A : Type 0} (P : ℕ → A → Type 0) where
   of_held (p ∷ ps) (z ∷ ys) b y (Memᴰ.tail m) = let r = of_held ps ys b.1 y m in (r.0, Memᴰ.tail r.1, r.2)
 
 module _ {K : Type 0} (same : K → K → Bool) (hash : K → ℕ) (laws : KeyLaws same hash) where
+  -- Where keys stay apart, a key has one pair.
+  pub one_pair : (ys : List (Pair K)) → Unlike same ys → (y z : Pair K) → Memᴰ y ys → Memᴰ z ys → same y.key z.key ≡ true → y ≡ z
+  unfolding Unlike
+  one_pair [] u y z m n t = elim m [ ]
+  one_pair (x ∷ ys) u y z (Memᴰ.head e) (Memᴰ.head d) t = e ∙ sym d
+  one_pair (x ∷ ys) u y z (Memᴰ.head e) (Memᴰ.tail n) t = let a = u.0 z n in grind arith
+  one_pair (x ∷ ys) u y z (Memᴰ.tail m) (Memᴰ.head d) t = let a = u.0 y m in let s = laws.symmetric y.key z.key t in grind arith
+  one_pair (x ∷ ys) u y z (Memᴰ.tail m) (Memᴰ.tail n) t = one_pair ys u.1 y z m n t
+
   -- Then no place comes twice, if a place holds one pair.
   pub once_placed : (P : ℕ → Pair K → Type 0) → ((p : ℕ) (y z : Pair K) → P p y → P p z → y ≡ z) → (ps : List ℕ) (ys : List (Pair K)) → Beside P ps ys → Unlike same ys → Once ps
   unfolding Unlike

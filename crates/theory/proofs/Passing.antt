@@ -13,10 +13,11 @@ use Rattle.rules.specs.InUse.{is_pending}
 use Rattle.rules.specs.Seats.{is_idle, is_put, path_cells, new_cells}
 use Rattle.rules.specs.declared.Ask.{Ask}
 use Rattle.rules.specs.declared.NewCell.{NewCell}
+use Rattle.rules.specs.declared.Outcome.{Outcome}
 use Rattle.rules.specs.declared.Phase.{Phase}
 use Rattle.rules.specs.declared.Phase.TheVariants.{Swap}
 use Rattle.rules.specs.declared.Seat.{Seat}
-use Rattle.theory.proofs.Seating.{above, calling, news, shown_as}
+use Rattle.theory.proofs.Seating.{above, swapping, calling, news, shown_as}
 use Rattle.theory.specs.Fed.{asked}
 use Rattle.theory.specs.Records.{is_up}
 
@@ -24,6 +25,10 @@ use Rattle.theory.specs.Records.{is_up}
 
 pub key_asked : {K : Type 0} (a : Ask) (k : K) → key (asked a k) ≡ k
 key_asked a k = grind arith
+
+-- The operation of a call's swap is on the call's key.
+pub key_swapping : {K : Type 0} (a : Ask) (b : Bool) (r : Outcome) (k : K) → key (swapping a b r k) ≡ k
+key_swapping a b r k = grind arith
 
 pub key_calling : {K : Type 0} (b : Bool) (a : Ask) (k : K) → key (calling b a k) ≡ k
 key_calling b a k = grind arith

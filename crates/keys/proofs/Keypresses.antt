@@ -35,11 +35,11 @@ pub record Kept (text kept : List ℕ) (i : ℕ) : Type 0 where
 
 module _ (text : List ℕ) where
   -- One press more.
-  pub kept_more : (kept : List ℕ) (i b : ℕ) → length text ≤ 8 → i < length text → ok_or (press_byte (get_or text i 0)) CodeMisread ≡ Ok b → Kept text kept i → Kept text (set kept i b) (i + 1)
-  kept_more kept i b few l e so =
+  pub kept_more : (kept : List ℕ) (i b : ℕ) → i < length text → i < length kept → ok_or (press_byte (get_or text i 0)) CodeMisread ≡ Ok b → Kept text kept i → Kept text (set kept i b) (i + 1)
+  kept_more kept i b l k e so =
       let p = taken (is_press (get_or text i 0)) (get_or text i 0) b CodeMisread e in
       record {
-        front = cc (take_more_set kept i b (omega (arith, so.places)), take_more text i 0 l, so.front, p.1);
+        front = cc (take_more_set kept i b k, take_more text i 0 l, so.front, p.1);
         presses = rw (take_more text i 0 l) (one_more (take i text) (get_or text i 0) so.presses p.0);
         places = length-set kept i b ∙ so.places;
       }

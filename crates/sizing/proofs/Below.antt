@@ -1,7 +1,8 @@
--- The cells below the root: listed by index, they are the shared prefixes.
-use Rattle.std.proofs.Common.{◌≡◌, ℕ, zero, suc, ◌+◌, ◌≤◌, Bool, true, List, [], ◌∷◌, ◌++◌, map, length, sym, refl, ap, ◌∙◌, subst, inl, inr, arith, length-append}
+-- The cells below the root: listed by index, they are the shared prefixes, and few enough to be counted.
+use Rattle.std.proofs.Common.{◌≡◌, ℕ, zero, suc, ◌+◌, ◌*◌, ◌^◌, ◌<◌, ◌≤◌, Bool, true, List, [], ◌∷◌, ◌++◌, map, length, sym, refl, ap, ◌∙◌, subst, inl, inr, suc-mul, arith, length-append}
 use mathlib.Core.List.Memᴰ
 use mathlib.Core.List.{Memᴰ}
+use native.Mathlib.Nat.{mod-le}
 use lib.ListN.{length-map}
 use Rattle.std.proofs.lemmas.Bool.{cases_eq, both_ways}
 use Rattle.std.proofs.lemmas.Bool.Decides.{nat_tests}
@@ -9,7 +10,8 @@ use Rattle.keys.specs.Laws.{KeyLaws}
 use Rattle.keys.specs.Routes.{prefix_at}
 use Rattle.sizing.specs.Demand.{occurrences, shared_prefixes, summed, cells_for}
 use Rattle.sizing.specs.Law.{Once, Apart, Chosen, Shared, Cells}
-use Rattle.sizing.proofs.Repeats.{occurs_in, in_occurs, repeated_twice, twice_repeated, once_repeats}
+use Rattle.sizing.proofs.Repeats.{occurs_in, in_occurs, repeated_twice, twice_repeated, repeated_in, once_repeats}
+use Rattle.sizing.proofs.Pigeons.{once_below}
 
 once_map : {A B : Type 0} (f : A → B) → ((x y : A) → f x ≡ f y → x ≡ y) → (xs : List A) → Once xs → Once (map f xs)
 once_map f one [] o = tt
@@ -130,3 +132,23 @@ module _ {K : Type 0} (same : K → K → Bool) (hash : K → ℕ) (laws : KeyLa
             in_below (map hash chosen) 7 index prefix low high
             (twice_repeated prefix (map (λ h. prefix_at h index) (map hash chosen)) (shared_two index prefix s));
       }
+
+summed_le : (f : ℕ → ℕ) (most n : ℕ) → ((index : ℕ) → f index ≤ most) → summed f n ≤ n * most
+summed_le f most zero small = omega arith
+summed_le f most (suc n) small = omega (arith, suc-mul n most, summed_le f most n small, small (suc n))
+
+-- Hashes of 32 bits share few prefixes, so the cells can be counted.
+pub cells_few : (hashes : List ℕ) → ((h : ℕ) → Memᴰ h hashes → h < 2 ^ 32) → cells_for hashes ≤ 1 + 7 * 2 ^ 32
+unfolding cells_for
+cells_few hashes small =
+    let each : (index : ℕ) → length (shared_prefixes hashes index) ≤ 2 ^ 32 =
+    λ index.
+    once_below (2 ^ 32) (shared_prefixes hashes index) (once_repeats (map (λ h. prefix_at h index) hashes))
+    (λ prefix m.
+    let found = Memᴰ.of_map (λ h. prefix_at h index) hashes (repeated_in prefix (map (λ h. prefix_at h index) hashes) m) in
+    let l = small found.0 found.1 in
+    let k = mod-le found.0 (2 ^ (5 * index)) in
+    let e = found.2 in
+    omega arith) in
+    let all = summed_le (λ index. length (shared_prefixes hashes index)) (2 ^ 32) 7 each in
+    omega arith

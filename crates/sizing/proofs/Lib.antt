@@ -1,4 +1,5 @@
 pub mod Repeats
+pub mod Pigeons
 pub mod Choosing
 pub mod Below
 pub mod Deepest

@@ -1,5 +1,6 @@
 -- One key and one hash more, and what all of them come to.
-use Rattle.std.proofs.Common.{◌≡◌, ℕ, ◌+◌, ◌-◌, ◌<◌, Bool, ◌||◌, List, [], ◌∷◌, map, length, get_or, take, fold, sym, refl, ap, ◌∙◌}
+use Rattle.std.proofs.Common.{◌≡◌, ℕ, ◌+◌, ◌*◌, ◌^◌, ◌-◌, ◌<◌, ◌≤◌, Bool, ◌||◌, List, [], ◌∷◌, map, length, get_or, take, fold, sym, refl, ap, ◌∙◌, arith}
+use mathlib.Core.List.Memᴰ
 use Rattle.std.specs.List.{list_any}
 use Rattle.std.proofs.lemmas.List.{take_more}
 use Rattle.std.proofs.lemmas.List.Sums.{fold_more}
@@ -7,7 +8,7 @@ use Rattle.keys.specs.Laws.{KeyLaws}
 use Rattle.sizing.specs.Demand.{holds, with_key, different, cells_for}
 use Rattle.sizing.specs.Depths.{deepest_two_of}
 use Rattle.sizing.specs.Law.{Counts}
-use Rattle.sizing.proofs.Below.{below_to, cells_below, cells_are}
+use Rattle.sizing.proofs.Below.{below_to, cells_below, cells_are, cells_few}
 use Rattle.sizing.proofs.Choosing.{chosen_different}
 use Rattle.sizing.proofs.Deepest.{cells_more, deepest_ordered}
 
@@ -44,3 +45,10 @@ module _ {K : Type 0} (same : K → K → Bool) (hash : K → ℕ) (laws : KeyLa
         are = cells_are same hash laws ks (different same ks) (chosen_different same hash laws ks);
         cells = c ∙ cells_below (map hash (different same ks));
       }
+
+  -- So few cells that their number fits, however many keys there are.
+  pub figures_few : (ks : List K) (cells : ℕ) → cells ≡ cells_for (map hash (different same ks)) → cells ≤ 1 + 7 * 2 ^ 32
+  figures_few ks cells c =
+      rw c
+      (cells_few (map hash (different same ks))
+      (λ h m. let found = Memᴰ.of_map hash (different same ks) m in let s = laws.short found.0 in let e = found.2 in omega arith))

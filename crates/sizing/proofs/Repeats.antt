@@ -49,3 +49,7 @@ once_from (x ∷ xs) few = (λ m. grind (arith, nat_tests, in_occurs x xs m, few
 
 pub once_repeats : (xs : List ℕ) → Once (repeats xs)
 once_repeats xs = once_from (repeats xs) (λ n. grind (arith, nat_tests, repeated n xs))
+
+-- What is repeated stands in the list.
+pub repeated_in : (n : ℕ) (xs : List ℕ) → Memᴰ n (repeats xs) → Memᴰ n xs
+repeated_in n xs m = occurs_in n xs (omega (arith, repeated_twice n xs m))

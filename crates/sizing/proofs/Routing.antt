@@ -13,5 +13,9 @@ pub route_more : (h index : ℕ) → 1 ≤ index → route_to h (index - 1) ++ (
 route_more h zero l = absurd (omega arith)
 route_more h (suc more) l = simp unary_clauses
 
+-- The number written is the chunk at the index.
+pub route_next : (h index at n : ℕ) → 1 ≤ index → n ≡ chunk_at h at → at ≡ index → route_to h (index - 1) ++ (codes "." ++ decimal n) ≡ route_to h (index + 1 - 1)
+route_next h index at n l e is = rw (e, is) (route_more h index l)
+
 pub route_whole : (h : ℕ) → route_to h 6 ≡ route_text h
 route_whole h = simp append_assoc refl

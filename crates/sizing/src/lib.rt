@@ -1,8 +1,8 @@
 // How large a table must be for given keys.
 #![tactic(auto)]
 
-ghost use Rattle.std.specs.Prelude.{◌≡◌, ℕ, map, IfOk, Some};
-ghost use Rattle.sizing.specs.Demand.{different, cells_for, capacity_of, within_limits_of, figures_text};
+ghost use Rattle.std.specs.Prelude.{◌≡◌, ℕ, ◌+◌, ◌*◌, ◌^◌, ◌≤◌, map, IfOk, Some};
+ghost use Rattle.sizing.specs.Demand.{holds, different, cells_for, capacity_of, within_limits_of, figures_text};
 ghost use Rattle.sizing.specs.Depths.{larger_two, deepest_two_of};
 ghost use Rattle.sizing.specs.Law.{Counts};
 
@@ -51,6 +51,7 @@ impl fmt::Display for Capacity {
 pub fn capacity_for<K: Key>(heap: Global, keys: &[K]) -> Result<Capacity, AllocError>
     ensures figures { IfOk result (λ c. c ≡ capacity_of K.eq K.hash keys.now) }
     ensures counts { IfOk result (λ c. Counts K.eq K.hash keys.now c) }
+    ensures few { IfOk result (λ c. c.cells ≤ 1 + 7 * 2 ^ 32) }
 {
     let chosen = different(heap, keys)?;
     let hashes: Vec<u32> = chosen.iter().map(|key| key.hash()).collect(heap)?;
@@ -68,11 +69,19 @@ fn different<K: Key>(heap: Global, keys: &[K]) -> Result<Vec<K>, AllocError>
 {
     let mut chosen = Vec::new(heap);
     for key in keys {
-        if !chosen.contains(key) {
+        if !is_held(chosen.as_slice(), *key) {
             chosen.push(*key)?;
         }
     }
     Ok(chosen)
+}
+
+// Whether an equal key is among them. By `any`, and the key by value: `contains` tests four at a time behind a reference, and
+// takes longer here.
+fn is_held<K: Key>(keys: &[K], key: K) -> bool
+    ensures { result ≡ holds K.eq keys.now key }
+{
+    keys.iter().any(|held| *held == key)
 }
 
 // The cells for different keys with these hashes. A loop and no sum, since its invariant shows that each addition fits.

@@ -1,6 +1,6 @@
-use Rattle.std.proofs.Common.{◌≡◌, ◌-◌, ◌++◌, codes, decimal, refl, ap, ◌∙◌, ℕ, arith}
+use Rattle.std.proofs.Common.{◌≡◌, ◌-◌, rules, refl, arith}
 use Rattle.std.proofs.lemmas.Grind.{put_two}
-use Rattle.sizing.proofs.Routing.{route_to, route_more, route_whole}
+use Rattle.sizing.proofs.Routing.{route_next, route_whole}
 use Rattle.sizing.proofs.lines.RouteDisplay.fmt.Goals as goal
 
 pub loop-index-init : goal.loop-index-init
@@ -11,8 +11,7 @@ loop-index-preserved g c =
     λ plain.
     let so = c.loop-index.invariant plain in
     put_two g.W.Write.write_str_gives _ _ _ _ _ _ so (c.in_ok-write-2.ensures.writes so.plain refl)
-    (ap (λ (n : ℕ). route_to c.args.self.now.0 (c.loop-index.index - 1) ++ (codes "." ++ decimal n)) c.chunk-in-loop-index.ensures.value
-    ∙ route_more c.args.self.now.0 c.loop-index.index c.loop-index.auto.index)
+    (route_next c.args.self.now.0 c.loop-index.index _ _ c.loop-index.auto.index c.chunk-in-loop-index.ensures.value (search rules))
 
 pub returns-clause-writes : goal.returns-clause-writes
 returns-clause-writes g c =
